@@ -1,0 +1,5 @@
+pub mod Boundary
+pub mod Rules
+pub mod Checks
+pub mod Pointers
+pub mod Laws
