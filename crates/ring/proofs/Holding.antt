@@ -135,3 +135,8 @@ module _ {T : Type 0} where
       → held o c m ≡ x ∷ drop 1 (held o c m)
   held-front size o c m x e h l k r =
       held-read size o c m x e h l k r ∙ ap (λ y. x ∷ y) (held-free size o c 1 m e h l k)
+
+  -- an element as it was read at its place
+  pub held-at : (size o c i place : ℕ) (m : List T) (x : T) → length m ≡ size → o < size → c ≤ size → i < c → place ≡ (o + i) % size → x ≡ getD m place x
+      → x ≡ getD (held o c m) i x
+  held-at size o c i place m x e h l k p r = r ∙ ap (λ q. getD m q x) p ∙ sym (getD-held size o c m e h l i x k)

@@ -1,6 +1,7 @@
 // Where the elements of a ring lie in its memory.
 ghost use Prim.Native.Nat.{_^_, _<_, _≤_};
 
+pub(crate) mod elements;
 mod moves;
 mod numbers;
 mod places;

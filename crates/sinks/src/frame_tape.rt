@@ -1,6 +1,6 @@
 // A tape of frames, in memory that it is given and gives back.
 ghost use mathlib.Core.Path.{_≡_};
-ghost use Prim.Native.Nat.{_+_, _-_};
+ghost use Prim.Native.Nat.{_+_, _-_, _<_};
 ghost use lib.ListN.{take, set};
 ghost use Rattle.std.specs.Of.Vec.{vec-items, vec-len};
 ghost use Rattle.sinks.specs.Stops.{full};
@@ -40,6 +40,14 @@ impl FrameTape {
     }
 }
 
+fn write(memory: &mut Vec<Frame>, at: usize, frame: Frame)
+    requires { ⌜ at < vec-len (now memory) ⌝ }
+    ensures items { λ _. ⌜ vec-items (now (memory .exit)) ≡ set (vec-items (now (memory .entry))) at frame ⌝ }
+    ensures len { λ _. ⌜ vec-len (now (memory .exit)) ≡ vec-len (now (memory .entry)) ⌝ }
+{
+    memory[at] = frame;
+}
+
 pub impl Sink for FrameTape as FrameTapeSink {
     ghost shows = { record {
       heard = λ s. take (s .count) (vec-items (s .memory));
@@ -54,7 +62,7 @@ pub impl Sink for FrameTape as FrameTapeSink {
         if self.count >= capacity(self.memory.len()) {
             return Err(tape_full());
         }
-        self.memory[self.count] = frame;
+        write(&mut self.memory, self.count, frame);
         self.count += 1;
         Ok(())
     }

@@ -1,19 +1,10 @@
 // What can be done with a ring. Where the memory is not as long as the span says, nothing is.
 ghost use denote.Ref.{name};
-ghost use lib.ListN.{getD, length};
 ghost use mathlib.Core.Path.{_≡_};
-ghost use Prim.Native.Nat.{_<_};
 ghost use Rattle.ring.specs.Rings.{Adds, GivesUp, Reads};
 use super::Ring;
 use crate::span::Span;
-
-// The element at a place.
-fn at<T: Copy>(memory: &[T], place: u32) -> T
-    requires { ⌜ place < length (now memory) ⌝ }
-    ensures { λ r. ⌜ r ≡ getD (now (memory .entry)) place r ⌝ }
-{
-    memory[place as usize]
-}
+use crate::span::elements::at;
 
 impl<'a, T: Copy> Ring<'a, T> {
     // The ring that a span marks in a memory.

@@ -1,0 +1,13 @@
+pub mod Stretches
+pub mod Rising
+pub mod Booking
+pub mod Refusals
+pub mod Histories
+pub mod Lent
+pub mod Framing
+pub mod LedgerSteps
+pub mod Stretching
+pub mod PlaybackProof
+pub mod Copying
+pub mod CaptureProof
+pub mod Both

@@ -1,0 +1,17 @@
+pub mod Rules
+pub mod Limits
+pub mod Areas
+pub mod Ledgers
+pub mod States
+pub mod PlaybackBook
+pub mod Playback
+pub mod CaptureBook
+pub mod Capture
+pub mod Histories
+pub mod Numbers
+pub mod Happenings
+pub mod Entries
+pub mod Leases
+pub mod PlaybackHistory
+pub mod CaptureHistory
+pub mod Promise
