@@ -1,4 +1,6 @@
 // The account of every frame and every lease.
+#![tactic(auto)]
+
 ghost use Rattle.account.specs.Promise.{AlwaysAccounted};
 
 use sinks::sink::Sink;

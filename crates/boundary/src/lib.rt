@@ -1,5 +1,7 @@
 // The boundary to other languages: functions on numbers and byte slices, whose forms docs/BOUNDARY.md gives.
 // They check every length themselves and never trap, whatever the bytes are.
+#![tactic(auto)]
+
 mod answers;
 mod decoding;
 mod header;

@@ -1,5 +1,7 @@
 // The words in which streams are called and answer: leases, ledger entries, answers, and calls as data.
 // A call as data carries everything that the call is given, so that any list of calls can be tried.
+#![tactic(auto)]
+
 pub mod answer;
 pub mod call;
 pub mod entry;

@@ -1,6 +1,8 @@
 // The words that a caller sees as numbers: why a call was refused, a stream's state, a ledger entry's kind and a stop's cause.
 // Key property: each word has one number, no two words of a kind share one, and a number is read back as the word that has it.
 // Limit: a stop's cause is any number, since a sink may have causes of its own; only two are named here.
+#![tactic(auto)]
+
 ghost use Rattle.codes.specs.EntryKinds.{kind_number};
 ghost use Rattle.codes.specs.Numbered.{Undone};
 ghost use Rattle.codes.specs.Refusals.{refusal_number};

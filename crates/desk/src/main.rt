@@ -1,5 +1,7 @@
 // The desk: takes a recording from standard input through a pile of layers onto a tape, and reports what it did.
 // The recording is raw 16-bit stereo, left then right, low byte first.
+#![tactic(auto)]
+
 mod playing;
 mod report;
 

@@ -1,4 +1,6 @@
 // Worked figures: as theorems about the definitions, and as tests that run the code on the same numbers.
+#![tactic(auto)]
+
 ghost use Rattle.figures.specs.Figures.{Figures};
 
 pub fn figures_stand() -> u8

@@ -1,5 +1,7 @@
 // Frames of two 16-bit samples, their four bytes, and the sums that layers apply to them.
 // Every sum is proved to the bit against its definition in specs/, once, for all who use it.
+#![tactic(auto)]
+
 pub mod factor;
 pub mod filter;
 mod filtering;

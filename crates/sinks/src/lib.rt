@@ -1,5 +1,7 @@
 // Sinks: what takes frames one by one and brings sound out at its bottom. Tapes that keep what they hear, and layers
 // over any sink. Each shows what it makes of every list of frames, and is proved to have heard exactly that.
+#![tactic(auto)]
+
 pub mod byte_tape;
 mod capacity;
 pub mod fault;

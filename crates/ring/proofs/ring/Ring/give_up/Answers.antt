@@ -5,5 +5,5 @@ use Rattle.ring.proofs.ring.Ring.give_up.Goals as goal
 pub returns : goal.returns
 returns g c =
     let s = c.args.self.now in
-    let u = given_up c.free.result s.span _ c.free.new.self s.memory.now c.in-ok-x.x c.in-ok-x.ensures c.free.ensures (omega arith) in
+    let u = given_up c.free.result s.span _ c.free.new.self s.memory.now c.in_ok-x.x c.in_ok-x.ensures c.free.ensures (omega arith) in
     search (rules, u)
