@@ -7,6 +7,7 @@ mod report;
 
 use crate::playing::play;
 use crate::report::{say_end, say_halts, say_peaks, say_pile, say_recording};
+use anyhow::bail;
 use codes::refusal::Refusal;
 use frames::frame::Frame;
 use frames::taps::TapSet;
@@ -40,7 +41,7 @@ fn run(rt: &HostRuntime) -> anyhow::Result<()> {
     say_pile(rt, mark, room)?;
     let mut pile = match build(vec![in heap; 0; room * 4]?, mark) {
         Ok(pile) => pile,
-        Err(refusal) => return Err(refusal.name().into()),
+        Err(refusal) => bail!("{}", refusal.name()),
     };
     let mut halts = Vec::new(heap);
     let played = play(&mut pile, &frames, &mut halts)?;

@@ -13,7 +13,7 @@ loop-i-preserved c =
     let i = c.loop-i.i in
     let inv = c.loop-i.invariant.0 in
     let same : get_or c.loop-i.area i silence ≡ get_or A i silence = ap (λ z. get_or z i silence) inv ∙ mixed_ahead A F i silence in (
-      c.mix-at.ensures
+      c.mix_at.ensures
           ∙ ap (λ z. set c.loop-i.area i (mixed z (get_or F i silence))) same
           ∙ ap (λ z. set z i (mixed (get_or A i silence) (get_or F i silence))) inv
           ∙ mixed_more A F i silence silence (omega (arith, c.min-count.ensures)) (omega (arith, c.min-count.ensures)),

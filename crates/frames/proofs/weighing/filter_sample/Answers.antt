@@ -12,9 +12,9 @@ returns c =
     let at = c.args.from in
     let ff : SFits w16 c.args.first = c.ranges.first in
     let fi : SFits w16 c.args.input = c.ranges.input in
-    let fp : SFits w64 p = record { sfits = c.product.type-inv } in
-    let fw : SFits w64 w = record { sfits = c.weigh.type-inv } in
-    let fr : SFits w16 c.round.result = record { sfits = c.round.type-inv } in
+    let fp : SFits w64 p = record { sfits = c.product.type_inv } in
+    let fw : SFits w64 w = record { sfits = c.weigh.type_inv } in
+    let fr : SFits w16 c.round.result = record { sfits = c.round.type_inv } in
     let ep : p ≡ c.args.first *ℤ c.args.input = simp to_z-of_z at c.product.ensures.value in
     let n : at + 32 - at ≡ 32 = omega arith in
     let ew : w ≡ weighted c.args.later.now (take 32 (drop at c.args.line.now)) =

@@ -15,7 +15,7 @@ loop-i-preserved c =
     let p = c.product-sum.result in
     let ft : SFits w16 (get_or ts i (pos 0)) = search rules in
     let fy : SFits w16 (get_or ys i (pos 0)) = search rules in
-    let fp : SFits w64 p = record { sfits = c.product-sum.type-inv } in
+    let fp : SFits w64 p = record { sfits = c.product-sum.type_inv } in
     let ev : p ≡ get_or ts i (pos 0) *ℤ get_or ys i (pos 0) = simp to_z-of_z at c.product-sum.ensures.value in
     let inv : s ≡ weighted (take i ts) ys = sym c.loop-i.sum-is ∙ c.loop-i.invariant.0 in
     let ab : nat_abs s ≤ i * 2 ^ 30 = omega (arith, c.loop-i.invariant.1, ap nat_abs c.loop-i.sum-is) in

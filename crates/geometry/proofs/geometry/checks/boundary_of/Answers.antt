@@ -2,8 +2,8 @@ use Rattle.std.proofs.Common.{arith, rules}
 use Rattle.geometry.proofs.Doubling.{raised, boundary_corrected, boundary_straight, boundary_wraps}
 use Rattle.geometry.proofs.geometry.checks.boundary_of.Goals as goal
 
-pub overflow-sub-doublings : goal.overflow-sub-doublings
-overflow-sub-doublings c = let t = raised c.args.buffer c.requires.least c.requires.most in omega (arith, t.1)
+pub overflow_sub-doublings : goal.overflow_sub-doublings
+overflow_sub-doublings c = let t = raised c.args.buffer c.requires.least c.requires.most in omega (arith, t.1)
 
 pub returns-then-buffer-doublings : goal.returns-then-buffer-doublings
 returns-then-buffer-doublings c =
