@@ -1,5 +1,5 @@
 -- The history of two streams is a history of each. Assumes nothing.
-use Rattle.std.proofs.Common.{◌≡◌, List, [], ◌∷◌, sym, refl, ap, ◌∙◌}
+use Rattle.std.proofs.Common.{[], ◌∷◌, refl, ap}
 use Rattle.sinks.specs.Making.{Lawful}
 use Rattle.sinks.specs.Sink.{SinkPoints}
 use Rattle.sources.specs.Source.{SourcePoints}

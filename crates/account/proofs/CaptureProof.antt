@@ -1,9 +1,9 @@
 -- Capture: every frame and every lease is accounted for, after any calls since set-up. Assumes nothing.
-use Rattle.std.proofs.Common.{◌≡◌, ℕ, zero, suc, ◌+◌, ◌-◌, ◌%◌, ◌<◌, ◌≤◌, min, Bool, true, false, cond, not, ◌&&◌, eqb, ltb, leb, ◌≢◌, ◌⊎◌, List, [], ◌∷◌, ◌++◌, map, length, get_or, take, drop, set, is_some, Some, None, Option, sym, refl, ap, ◌∙◌, subst, inl, inr, mod-lt, arith}
+use Rattle.std.proofs.Common.{◌≡◌, ℕ, ◌+◌, ◌-◌, ◌%◌, ◌<◌, ◌≤◌, true, false, not, eqb, ltb, List, [], ◌∷◌, ◌++◌, map, length, get_or, take, drop, is_some, Some, None, Option, sym, refl, ap, ◌∙◌, inl, inr, mod-lt, arith}
 use native.Mathlib.Nat.{mod-add-mod}
 use lib.Seq.{paste}
-use Rattle.std.proofs.lemmas.Bool.{cases_lt, cases_eq, cases_Bool, leb-false, ltb-false, eqb-true, eqb-false, not-false, lt-ltb, both_ways, true≢false}
-use Rattle.std.proofs.lemmas.List.{map-append, append_assoc, append-nil, length-take, length-drop, length-append, take-append-drop, take_all, take_at, nil_from_length}
+use Rattle.std.proofs.lemmas.Bool.{cases_lt, cases_Bool, leb-false, ltb-false, eqb-true, eqb-false, not-false, lt-ltb, both_ways}
+use Rattle.std.proofs.lemmas.List.{map-append, append_assoc, append-nil, length-take, length-drop, length-append, take-append-drop, take_at, nil_from_length}
 use Rattle.codes.specs.declared.refusal.Refusal.{Refusal}
 use Rattle.codes.specs.declared.refusal.Refusal.TheVariants as refusal
 use Rattle.codes.specs.declared.entry_kind.EntryKind.{EntryKind}
@@ -14,7 +14,7 @@ use Rattle.frames.specs.declared.frame.Frame.{Frame}
 use Rattle.frames.specs.Samples.{silence}
 use Rattle.geometry.proofs.Wrapping.{captured_unread}
 use Rattle.ring.specs.Held.{held}
-use Rattle.sources.specs.Source.{SourcePoints, Gives}
+use Rattle.sources.specs.Source.{SourcePoints}
 use Rattle.sources.proofs.Chains.{chains_take}
 use Rattle.calls.specs.declared.answer.Answer.{Answer}
 use Rattle.calls.specs.declared.answer.Answer.TheVariants.{Done, Granted, Ticked, Taken, Refused}
@@ -25,20 +25,18 @@ use Rattle.calls.specs.declared.entry.Entry.{Entry}
 use Rattle.calls.specs.declared.lease_parts.LeaseParts.{LeaseParts}
 use Rattle.calls.specs.declared.verdict.CallKind.{CallKind}
 use Rattle.calls.specs.declared.verdict.CallKind.TheVariants as call
-use Rattle.calls.specs.declared.verdict.Verdict.{Verdict}
 use Rattle.calls.specs.Lending.{holds}
 use Rattle.account.specs.Areas.{area, with_out, with_none}
-use Rattle.account.specs.Capture.{next_lease, lends, turned, read, loss, emptied, noted_as, kept, lost, filled, overrun, after_tick, grown, stored, Begun, Copied, Committed, Turned, Emptied, TookEntry, Captured, no_begin, no_access, no_emptying, no_moving, decides, drained}
+use Rattle.account.specs.Capture.{next_lease, lends, turned, read, loss, emptied, noted_as, kept, lost, filled, stored, Turned, Emptied, Captured, no_begin, no_access, no_emptying, no_moving, decides}
 use Rattle.account.specs.CaptureBook.{Book, fresh, room}
-use Rattle.account.specs.Ledgers.{LedgerNumbers, entries_of, is_full, noted, with_noted, with_taken, oldest_of}
-use Rattle.account.specs.Limits.{frame_limit}
-use Rattle.account.specs.Rules.{Refuses, Reason, ◌⇒◌, Unless}
-use Rattle.account.specs.States.{among, capture_decides, is_refusal, moves, refusing, entered}
+use Rattle.account.specs.Ledgers.{entries_of, noted, with_noted, with_taken, oldest_of}
+use Rattle.account.specs.Rules.{Refuses, ◌⇒◌, Unless}
+use Rattle.account.specs.States.{among, capture_decides, is_refusal, moves, refusing}
 use Rattle.account.specs.Entries.{entry_list}
-use Rattle.account.specs.Happenings.{Happening, nothing, emptied as was_emptied, of_capture_call, ends_lease}
-use Rattle.account.specs.Histories.{Leads, Moment}
+use Rattle.account.specs.Happenings.{nothing, emptied as was_emptied, of_capture_call, ends_lease}
+use Rattle.account.specs.Histories.{Leads}
 use Rattle.account.specs.Numbers.{numbers, times, lies}
-use Rattle.account.specs.CaptureHistory.{Situation, RestSame, CopiedInto, Step, Past, left_the_list, given_up, unread, handed_over, frames_handed_over, copied_numbers, frames_copied, answered, entries, deeds}
+use Rattle.account.specs.CaptureHistory.{Situation, RestSame, Step, Past, left_the_list, given_up, unread, handed_over, frames_handed_over, copied_numbers, frames_copied, answered, entries, deeds}
 use Rattle.account.specs.Promise.{CaptureAccount}
 use Rattle.account.proofs.Booking.{booked_once, booked_no_other}
 use Rattle.account.proofs.Framing.{Framed, framed_none, framed_more, framed_go, framed_lose, framed_empty, framed_miss, stored_held, length_stored, area_frames}
@@ -47,7 +45,7 @@ use Rattle.account.proofs.Lent.{none_out, held_is, Lent, lent_none, lent_grant, 
 use Rattle.account.proofs.Copying.{area_written, put_back}
 use Rattle.account.proofs.PlaybackProof.{has_room}
 use Rattle.account.proofs.Refusals.{cases_if, refused_or_obeyed}
-use Rattle.account.proofs.Stretches.{times_append, times_within, times_inside, times_after, take_numbers, drop_numbers, map_get_or_append, length_numbers}
+use Rattle.account.proofs.Stretches.{times_append, times_inside, times_after, take_numbers, drop_numbers, map_get_or_append, length_numbers}
 
 pub made : {R : Type 0} {u : Situation R} {b : Book} {source : R} {m : List Frame} {ledger : List Entry} {host : List Frame} → u.stream ≡ b → u.source ≡ source → u.memory ≡ m → u.ledger ≡ ledger → u.host ≡ host → u ≡ record { stream = b; source = source; memory = m; ledger = ledger; host = host }
 made a b c d e = rw (sym a, sym b, sym c, sym d, sym e)

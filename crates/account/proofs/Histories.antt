@@ -1,7 +1,7 @@
 -- One call more in a run.
-use Rattle.std.proofs.Common.{◌≡◌, ℕ, ◌+◌, ◌<◌, List, [], ◌∷◌, ◌++◌, map, reverse, length, get_or, take, set, sym, refl, ap, ◌∙◌}
+use Rattle.std.proofs.Common.{ℕ, ◌+◌, ◌<◌, List, [], ◌∷◌, ◌++◌, length, get_or, take, set, sym, refl, ap, ◌∙◌}
 use Rattle.std.proofs.lemmas.List.{reverse-append, take_more, take_more_set}
-use Rattle.account.specs.Histories.{Ran, Moment, History, Leads}
+use Rattle.account.specs.Histories.{Ran, History, Leads}
 use Rattle.calls.specs.declared.answer.Answer.{Answer}
 
 module _ {T C : Type 0} (Step : T → C → Answer → T → Type 0) where

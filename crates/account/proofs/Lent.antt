@@ -1,12 +1,11 @@
 -- Each lease ends once: what each deed does to the counts of leases.
-use Rattle.std.proofs.Common.{◌≡◌, ℕ, suc, ◌+◌, ◌-◌, ◌%◌, ◌<◌, ◌≤◌, Bool, true, false, ◌&&◌, eqb, List, [], ◌∷◌, ◌++◌, map, length, is_some, Some, None, Option, sym, refl, ap, ◌∙◌, inl, inr, arith}
-use Rattle.std.proofs.lemmas.Bool.Decides.{nat_tests}
-use Rattle.std.proofs.lemmas.Bool.{and_parts, eqb-true, eqb-false, cases_Bool}
+use Rattle.std.proofs.Common.{◌≡◌, ℕ, suc, ◌+◌, ◌-◌, ◌%◌, ◌<◌, ◌≤◌, Bool, true, false, eqb, List, [], ◌∷◌, ◌++◌, map, length, is_some, Some, None, Option, refl, ap, ◌∙◌, inl, inr, arith}
+use Rattle.std.proofs.lemmas.Bool.{and_parts, eqb-true, cases_Bool}
 use Rattle.account.specs.Numbers.{bit}
 use Rattle.calls.specs.Lending.{same, holds}
 use Rattle.account.specs.Areas.{Inside}
 use Rattle.account.specs.Promise.{InArea}
-use Rattle.account.specs.Leases.{Fate, Deed, was_granted, was_committed, was_given_back, was_voided, those, copies, committed_with, voids, falling, Numbered, EachEndsOnce}
+use Rattle.account.specs.Leases.{Deed, was_granted, was_committed, was_given_back, was_voided, those, copies, committed_with, voids, Numbered, EachEndsOnce}
 use Rattle.calls.specs.declared.lease_parts.LeaseParts.{LeaseParts}
 use Rattle.account.proofs.Stretches.{place_of}
 

@@ -1,9 +1,9 @@
 -- Playback: every frame and every lease is accounted for, after any calls since set-up. Assumes nothing.
-use Rattle.std.proofs.Common.{◌≡◌, ℕ, zero, suc, ◌+◌, ◌-◌, ◌%◌, ◌<◌, ◌≤◌, min, Bool, true, false, cond, not, ◌&&◌, eqb, ltb, leb, ◌≢◌, ◌⊎◌, List, [], ◌∷◌, ◌++◌, map, length, get_or, take, drop, set, is_some, Some, None, Option, sym, refl, ap, ◌∙◌, subst, inl, inr, mod-lt, arith}
+use Rattle.std.proofs.Common.{◌≡◌, ℕ, suc, ◌+◌, ◌-◌, ◌%◌, ◌<◌, ◌≤◌, true, false, not, ◌&&◌, eqb, ltb, List, [], ◌∷◌, ◌++◌, map, length, get_or, take, drop, is_some, Some, None, Option, sym, refl, ap, ◌∙◌, subst, inl, inr, mod-lt, arith}
 use native.Mathlib.Nat.{mod-add-mod}
 use lib.Seq.{paste, length-paste}
 use Rattle.std.proofs.lemmas.Bool.{cases_lt, cases_eq, cases_Bool, leb-false, ltb-false, eqb-true, eqb-false, not-false, lt-ltb, and_cases, both_ways}
-use Rattle.std.proofs.lemmas.List.{map-append, append_assoc, append-nil, length-take, length-drop, take-append-drop, take_all, take-take}
+use Rattle.std.proofs.lemmas.List.{map-append, append_assoc, append-nil, length-take, length-drop, take-append-drop, take-take}
 use Rattle.codes.specs.declared.refusal.Refusal.{Refusal}
 use Rattle.codes.specs.declared.refusal.Refusal.TheVariants as refusal
 use Rattle.codes.specs.declared.entry_kind.EntryKind.{EntryKind}
@@ -11,7 +11,7 @@ use Rattle.codes.specs.declared.entry_kind.EntryKind.TheVariants as kinds
 use Rattle.codes.specs.declared.state.State.{State}
 use Rattle.codes.specs.declared.state.State.TheVariants.{Setup, Xrun, Draining}
 use Rattle.frames.specs.declared.frame.Frame.{Frame}
-use Rattle.frames.specs.Samples.{silence, mixed, mixed_all}
+use Rattle.frames.specs.Samples.{silence, mixed_all}
 use Rattle.geometry.proofs.Wrapping.{playback_free}
 use Rattle.ring.specs.Held.{held}
 use Rattle.ring.proofs.Holding.{held_area}
@@ -33,18 +33,18 @@ use Rattle.calls.specs.Lending.{holds}
 use Rattle.account.specs.Areas.{area, with_out, with_none}
 use Rattle.account.specs.Ledgers.{LedgerNumbers, entries_of, is_full, noted, with_noted, with_taken, oldest_of}
 use Rattle.account.specs.Limits.{frame_limit}
-use Rattle.account.specs.Playback.{next_lease, lends, turned, moved, loss, emptied, noted_as, advanced, after_tick, tick_entry, underrun, sink_stop, Begun, Written, Committed, Turned, Emptied, TookEntry, Played, Turns, no_begin, no_access, no_emptying, decides}
-use Rattle.account.specs.PlaybackBook.{Book, fresh, waits, free, waiting_frames}
+use Rattle.account.specs.Playback.{next_lease, lends, turned, moved, loss, emptied, noted_as, tick_entry, Turned, Played, no_begin, no_access, no_emptying, decides}
+use Rattle.account.specs.PlaybackBook.{Book, fresh, waits, waiting_frames}
 use Rattle.account.specs.Rules.{Refuses, Reason, ◌⇒◌, Unless}
-use Rattle.account.specs.States.{among, moves, refusing, entered}
+use Rattle.account.specs.States.{among, moves, refusing}
 use Rattle.account.specs.Entries.{entry_list}
-use Rattle.account.specs.Happenings.{Happening, nothing, emptied as was_emptied, of_playback_call, ends_lease}
-use Rattle.account.specs.Histories.{Leads, Moment}
+use Rattle.account.specs.Happenings.{nothing, emptied as was_emptied, of_playback_call, ends_lease}
+use Rattle.account.specs.Histories.{Leads}
 use Rattle.account.specs.Numbers.{numbers, times, RiseFrom}
 use Rattle.account.specs.PlaybackHistory.{Situation, RestSame, Step, Past, frames_committed, waiting, played, answered, entries, deeds}
 use Rattle.account.specs.Promise.{PlaybackAccount}
 use Rattle.account.proofs.Booking.{booked_once, booked_no_other}
-use Rattle.account.proofs.Framing.{Framed, framed_none, framed_write, framed_note, framed_taken_in, framed_go, framed_lose, framed_empty, stretch}
+use Rattle.account.proofs.Framing.{Framed, framed_none, framed_write, framed_note, framed_taken_in, framed_go, framed_lose, framed_empty}
 use Rattle.account.proofs.LedgerSteps.{LedgerKept, ledger_noted, entries_noted, entries_taken, ledger_taken, further_are}
 use Rattle.account.proofs.Lent.{none_out, held_is, Lent, lent_none, lent_grant, lent_back, lent_commit, lent_void, lent_once, Area, further, area_places}
 use Rattle.account.proofs.Refusals.{cases_if, refused_or_obeyed}

@@ -3,7 +3,7 @@ use Rattle.std.proofs.Common.{◌≡◌, ℕ, ◌≤◌, Bool, true, false, not,
 use Rattle.std.proofs.lemmas.List.{length-take-le, take-append-drop}
 use Rattle.std.proofs.lemmas.Bool.{ne_eqb}
 use Rattle.codes.specs.declared.refusal.Refusal.{Refusal}
-use Rattle.account.specs.Rules.{Refuses, Reason, ◌⇒◌, If, Unless}
+use Rattle.account.specs.Rules.{Refuses, Reason, If, Unless}
 use Rattle.calls.specs.declared.answer.Answer.{Answer}
 
 pub cases_if : (b : Bool) {A B : Type 0} → If b A B → ((b ≡ true) × A) ⊎ ((b ≡ false) × B)

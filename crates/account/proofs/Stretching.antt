@@ -1,8 +1,7 @@
 -- Lost stretches that rise. Assumes nothing.
-use Rattle.std.proofs.Common.{◌≡◌, ℕ, ◌+◌, ◌<◌, ◌≤◌, Bool, true, false, eqb, List, [], ◌∷◌, ◌++◌, refl, inl, inr, arith}
-use Rattle.std.proofs.lemmas.Bool.{cases_Bool, eqb-true, eqb-false, eq-eqb}
+use Rattle.std.proofs.Common.{◌≡◌, ℕ, ◌+◌, ◌≤◌, eqb, List, [], ◌∷◌, ◌++◌, inl, inr, arith}
+use Rattle.std.proofs.lemmas.Bool.{cases_Bool, eq-eqb}
 use Rattle.calls.specs.declared.entry.Entry.{Entry}
-use Rattle.account.specs.Rules.{If}
 use Rattle.account.specs.Numbers.{RiseFrom}
 use Rattle.account.proofs.Refusals.{cases_if}
 

@@ -7,12 +7,12 @@
 --   kept b came, lost b came   of the frames that came, those that the ring has room for, and the rest
 --   loss kind b           the entry for frames that are thrown away, if any are unread
 -- Assumes nothing.
-use Rattle.std.specs.Prelude.{◌≡◌, ℕ, suc, ◌+◌, ◌-◌, ◌%◌, ◌<◌, ◌≤◌, Bool, true, false, cond, not, ◌&&◌, ltb, List, [], ◌∷◌, ◌++◌, length, take, drop, set, is_some, Some, None, Option, ◌==◌, nat_eq, nat_le, nat_lt, slice_set}
+use Rattle.std.specs.Prelude.{◌≡◌, ℕ, suc, ◌+◌, ◌-◌, ◌%◌, Bool, cond, not, ◌&&◌, ltb, List, [], ◌∷◌, length, take, drop, is_some, Some, None, Option, ◌==◌, nat_eq, nat_le, nat_lt, slice_set}
 use Rattle.codes.specs.declared.entry_kind.EntryKind.{EntryKind}
 use Rattle.codes.specs.declared.entry_kind.EntryKind.TheVariants as kind
 use Rattle.codes.specs.declared.refusal.Refusal.TheVariants as refusal
 use Rattle.codes.specs.declared.state.State.{State}
-use Rattle.codes.specs.declared.state.State.TheVariants.{Setup, Prepared, Running, Xrun, Draining, Paused}
+use Rattle.codes.specs.declared.state.State.TheVariants.{Setup, Xrun, Draining}
 use Rattle.frames.specs.declared.frame.Frame.{Frame}
 use Rattle.geometry.specs.Pointers.{area_length, place_of}
 use Rattle.sources.specs.Source.{SourcePoints, Gives}
@@ -30,7 +30,7 @@ use Rattle.account.specs.CaptureBook.{Book, room}
 use Rattle.account.specs.Ledgers.{LedgerNumbers, is_full, noted, with_noted, with_taken, oldest_of}
 use Rattle.account.specs.Limits.{frame_limit, lease_limit}
 use Rattle.account.specs.Playback.{periods, Still}
-use Rattle.account.specs.Rules.{Reason, ◌⇒◌, If, Refuses, Unless}
+use Rattle.account.specs.Rules.{Reason, ◌⇒◌, If, Unless}
 use Rattle.account.specs.States.{among, capture_decides, refusing, moves, entered}
 
 abbrev pub decides : Book → CallKind → Verdict

@@ -10,7 +10,7 @@
 --   entries h end      the entries that takes have answered and would answer
 --   deeds h            what was done with leases, the newest first
 -- Assumes nothing.
-use Rattle.std.specs.Prelude.{◌≡◌, ℕ, ◌+◌, ◌-◌, List, [], ◌∷◌, ◌++◌, length, take, drop}
+use Rattle.std.specs.Prelude.{◌≡◌, ℕ, ◌-◌, List, [], ◌∷◌, ◌++◌, length, take, drop}
 use Rattle.std.proofs.Math.Seq.{paste}
 use Rattle.codes.specs.declared.refusal.Refusal.TheVariants as refusal
 use Rattle.frames.specs.declared.frame.Frame.{Frame}

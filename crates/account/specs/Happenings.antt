@@ -8,7 +8,7 @@
 --   copied l j x n   an obeyed copy filled n places of the host's memory from place x on, from position j of the lease's area
 --   nothing          all else, and every other refusal
 -- Assumes nothing.
-use Rattle.std.specs.Prelude.{ℕ, Bool, true, false, cond, ◌||◌, Option, ◌==◌}
+use Rattle.std.specs.Prelude.{ℕ, Bool, cond, ◌||◌, Option, ◌==◌}
 use Rattle.codes.specs.declared.refusal.Refusal.{Refusal}
 use Rattle.codes.specs.Refusals.{refusal_number}
 use Rattle.calls.specs.declared.answer.Answer.{Answer}

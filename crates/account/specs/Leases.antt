@@ -8,11 +8,11 @@
 --   EachEndsOnce  every lease granted was granted once, and was committed, given back or voided once, or is the one out
 --   Numbered        the leases granted have the numbers 1, 2, 3, ..
 -- Assumes nothing.
-use Rattle.std.specs.Prelude.{◌≡◌, ℕ, zero, suc, ◌+◌, ◌<◌, Bool, true, false, cond, List, [], ◌∷◌, map, length, Some, None, Option, ◌==◌}
+use Rattle.std.specs.Prelude.{◌≡◌, ℕ, zero, suc, ◌+◌, ◌<◌, cond, List, [], ◌∷◌, map, length, Some, None, Option, ◌==◌}
 use Rattle.calls.specs.declared.lease_parts.LeaseParts.{LeaseParts}
 use Rattle.calls.specs.Lending.{same, holds}
 use Rattle.account.specs.Happenings.{Happening, granted, committed, given_back, ticked, emptied, taken, copied, nothing}
-use Rattle.account.specs.Numbers.{bit, numbers}
+use Rattle.account.specs.Numbers.{bit}
 
 pub data Fate : Type 0 where
   was_granted : Fate

@@ -7,7 +7,7 @@
 --   with_taken n        the numbers after the oldest entry was taken
 --   oldest_of n es      the oldest entry, if there is one
 -- Assumes nothing.
-use Rattle.std.specs.Prelude.{ℕ, ◌+◌, ◌-◌, ◌%◌, Bool, true, false, cond, List, [], ◌∷◌, Some, None, Option, ◌==◌, nat_le, slice_set}
+use Rattle.std.specs.Prelude.{ℕ, ◌+◌, ◌-◌, ◌%◌, Bool, cond, List, [], ◌∷◌, Some, None, Option, ◌==◌, nat_le, slice_set}
 use Rattle.calls.specs.declared.entry.Entry.{Entry}
 use Rattle.ring.specs.Held.{held}
 

@@ -6,13 +6,13 @@
 --   loss kind b           the entry for frames that are thrown away, if any wait
 --   after_tick, tick_entry   the state after a tick of k of which `went` went, and the entry that is due, if one is
 -- Assumes nothing.
-use Rattle.std.specs.Prelude.{◌≡◌, ℕ, ◌+◌, ◌-◌, ◌/◌, ◌%◌, ◌<◌, ◌≤◌, Bool, true, false, cond, not, ◌&&◌, ltb, leb, List, [], ◌∷◌, ◌++◌, length, take, is_some, Some, None, Option, ◌==◌, nat_eq, nat_le, nat_lt}
+use Rattle.std.specs.Prelude.{◌≡◌, ℕ, ◌+◌, ◌-◌, ◌/◌, ◌<◌, ◌≤◌, cond, not, ◌&&◌, ltb, leb, List, [], ◌∷◌, length, take, is_some, Some, None, Option, ◌==◌, nat_eq, nat_le, nat_lt}
 use Rattle.std.proofs.Math.Seq.{paste}
 use Rattle.codes.specs.declared.entry_kind.EntryKind.{EntryKind}
 use Rattle.codes.specs.declared.entry_kind.EntryKind.TheVariants as kind
 use Rattle.codes.specs.declared.refusal.Refusal.TheVariants as refusal
 use Rattle.codes.specs.declared.state.State.{State}
-use Rattle.codes.specs.declared.state.State.TheVariants.{Setup, Prepared, Running, Xrun, Draining, Paused}
+use Rattle.codes.specs.declared.state.State.TheVariants.{Setup, Prepared, Running, Xrun, Draining}
 use Rattle.frames.specs.declared.frame.Frame.{Frame}
 use Rattle.frames.specs.Samples.{mixed_all}
 use Rattle.geometry.specs.Pointers.{area_length, place_of}
@@ -31,7 +31,7 @@ use Rattle.account.specs.Areas.{area, lease_on, with_out, with_none}
 use Rattle.account.specs.Ledgers.{LedgerNumbers, is_full, noted, with_noted, with_taken, oldest_of}
 use Rattle.account.specs.Limits.{frame_limit, lease_limit}
 use Rattle.account.specs.PlaybackBook.{Book, waits, free, waiting_frames}
-use Rattle.account.specs.Rules.{Reason, ◌⇒◌, If, Refuses, Unless}
+use Rattle.account.specs.Rules.{Reason, ◌⇒◌, If, Unless}
 use Rattle.account.specs.States.{among, playback_decides, refusing, moves, entered}
 
 abbrev pub decides : Book → CallKind → Verdict

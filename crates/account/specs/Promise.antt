@@ -6,7 +6,6 @@
 --   GoesOn          after any past since set-up, the history goes on with these calls and these answers, and both accounts hold
 -- Assumes nothing.
 use Rattle.std.specs.Prelude.{◌≡◌, ℕ, ◌+◌, ◌-◌, ◌%◌, ◌<◌, ◌≤◌, ◌≢◌, List, [], ◌∷◌, ◌++◌, map, length, Some, None, Option, slice_index_or}
-use Rattle.frames.specs.declared.frame.Frame.{Frame}
 use Rattle.frames.specs.Samples.{silence}
 use Rattle.geometry.specs.Pointers.{pointer_of, playback_avail, capture_avail}
 use Rattle.sinks.specs.Sink.{SinkPoints}
@@ -17,7 +16,7 @@ use Rattle.calls.specs.declared.call.Call.TheVariants.{Playback, Capture}
 use Rattle.calls.specs.declared.lease_parts.LeaseParts.{LeaseParts}
 use Rattle.account.specs.PlaybackBook as play_book
 use Rattle.account.specs.CaptureBook as capt_book
-use Rattle.account.specs.Histories.{Moment, History, Leads, Ran}
+use Rattle.account.specs.Histories.{History, Leads, Ran}
 use Rattle.account.specs.Leases.{EachEndsOnce, Numbered}
 use Rattle.account.specs.Numbers.{times, lies, Rises, RiseFrom}
 use Rattle.account.specs.PlaybackHistory as play

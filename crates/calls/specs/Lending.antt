@@ -2,7 +2,7 @@
 --   same x y      two leases agree in all four parts
 --   holds out l   this very lease is out
 -- Assumes nothing.
-use Rattle.std.specs.Prelude.{Bool, true, false, ◌&&◌, Some, None, Option, ◌==◌}
+use Rattle.std.specs.Prelude.{Bool, false, ◌&&◌, Some, None, Option, ◌==◌}
 use Rattle.calls.specs.declared.lease_parts.LeaseParts.{LeaseParts}
 
 abbrev pub same : LeaseParts → LeaseParts → Bool

@@ -1,5 +1,5 @@
 -- The tables of numbers are undone. Assumes nothing.
-use Rattle.std.proofs.Common.{◌≡◌, ℕ, List, [], ◌∷◌, get_or, Some, None, sym, refl, ap, ◌∙◌}
+use Rattle.std.proofs.Common.{◌≡◌, ℕ, [], ◌∷◌, get_or, Some, None, sym, refl, ap, ◌∙◌}
 use Rattle.codes.specs.Numbered.{Undone}
 use Rattle.codes.specs.Refusals.{refusal_number}
 use Rattle.codes.specs.States.{state_number}

@@ -1,5 +1,5 @@
 -- Frames fed in several goes. Assumes nothing.
-use Rattle.std.proofs.Common.{◌≡◌, ℕ, ◌+◌, ◌-◌, ◌≤◌, List, length, take, drop, Some, None, Option, sym, ap, subst, arith, take-add}
+use Rattle.std.proofs.Common.{ℕ, ◌+◌, ◌-◌, ◌≤◌, List, length, take, drop, Some, None, Option, sym, ap, subst, arith, take-add}
 use Rattle.std.proofs.lemmas.List.{length-drop, take_rest}
 use Rattle.frames.specs.declared.frame.Frame.{Frame}
 use Rattle.sinks.specs.declared.feed.Fed.{Fed}

@@ -2,7 +2,7 @@
 --   mono n      a frame with the sample n in both channels
 --   Figures     the figures, each named by what it shows
 -- Assumes nothing.
-use Rattle.std.specs.Prelude.{◌≡◌, ℕ, List, [], ◌∷◌, map, ℤ, pos, negsuc}
+use Rattle.std.specs.Prelude.{◌≡◌, ℕ, [], ◌∷◌, map, pos, negsuc}
 use Rattle.frames.specs.declared.frame.Frame.{Frame}
 use Rattle.frames.specs.Samples.{gained_sample}
 use Rattle.frames.specs.Filter.{filtered}

@@ -1,9 +1,9 @@
 -- What the sums are in other words, and what they make of A followed by B. Assumes nothing.
-use Rattle.std.proofs.Common.{◌≡◌, ℕ, zero, suc, ◌+◌, ◌-◌, ◌*◌, ◌/◌, ◌%◌, ◌<◌, ◌≤◌, List, [], ◌∷◌, ◌++◌, map, reverse, length, get_or, ℤ, pos, negsuc, ◌+ℤ◌, ◌*ℤ◌, ◌≤ℤ◌, ◌<ℤ◌, sym, refl, ap, ◌∙◌, mod-lt, suc-mul, div-add-mod', zero-mul, arith, w16, SFits, to_z, of_z}
+use Rattle.std.proofs.Common.{◌≡◌, ℕ, zero, suc, ◌+◌, ◌-◌, ◌*◌, ◌/◌, ◌%◌, ◌<◌, List, [], ◌∷◌, ◌++◌, map, reverse, get_or, ℤ, pos, negsuc, ◌+ℤ◌, ◌*ℤ◌, ◌≤ℤ◌, ◌<ℤ◌, sym, refl, ap, ◌∙◌, mod-lt, suc-mul, div-add-mod', zero-mul, arith, w16, SFits, to_z, of_z}
 use Rattle.std.proofs.lemmas.List.{append_assoc, reverse-append}
 use Rattle.std.proofs.lemmas.Int.{to_z-of_z, ints}
 use Rattle.frames.specs.declared.frame.Frame.{Frame}
-use Rattle.frames.specs.Layout.{bytes_of, frame_of, sample_of, sample_bytes}
+use Rattle.frames.specs.Layout.{bytes_of, frame_of, sample_of}
 use Rattle.frames.specs.Samples.{floor_div}
 use Rattle.frames.specs.Filter.{filtered, filtered_frame}
 use Rattle.frames.specs.Keep.{kept, falling}

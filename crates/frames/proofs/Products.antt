@@ -1,6 +1,6 @@
 -- Bounds on products and sums of signed numbers. Assumes nothing.
 use Rattle.std.proofs.Common.{◌≡◌, ℕ, zero, suc, ◌+◌, ◌*◌, ◌^◌, ◌<◌, ◌≤◌, ℤ, pos, negsuc, ◌+ℤ◌, ◌*ℤ◌, neg_ℤ, nat_abs, refl, arith, w16, w64, SFits}
-use lib.Signed.{mag, shr_z}
+use lib.Signed.{shr_z}
 use Rattle.std.proofs.lemmas.Nat.{mul-le}
 use Rattle.std.proofs.lemmas.Int.{ints}
 use Rattle.frames.specs.Samples.{floor_div}

@@ -5,12 +5,12 @@
 --   LaterTapsOfZero taps of 0 behind the last one change nothing
 --   ReadsBack         a frame written as bytes reads back as that frame
 -- Assumes nothing.
-use Rattle.std.specs.Prelude.{◌≡◌, ℕ, ◌+◌, ◌*◌, ◌<◌, List, [], ◌∷◌, ◌++◌, map, reverse, length, replicate, ℤ, pos, ◌+ℤ◌, ◌*ℤ◌, ◌≤ℤ◌, ◌<ℤ◌, FitsSigned, slice_index_or}
+use Rattle.std.specs.Prelude.{◌≡◌, ℕ, ◌*◌, ◌<◌, List, ◌++◌, map, reverse, length, replicate, ℤ, pos, ◌+ℤ◌, ◌*ℤ◌, ◌≤ℤ◌, ◌<ℤ◌, FitsSigned, slice_index_or}
 use Rattle.std.specs.Int.{w16}
 use Rattle.frames.specs.declared.frame.Frame.{Frame}
 use Rattle.frames.specs.Layout.{bytes_of, frame_of}
 use Rattle.frames.specs.Samples.{floor_div, gained_all, mixed_all}
-use Rattle.frames.specs.Filter.{weighted, filtered}
+use Rattle.frames.specs.Filter.{filtered}
 use Rattle.frames.specs.Keep.{kept, falling}
 
 abbrev pub RoundsDown : Type 0

@@ -1,8 +1,8 @@
 -- The rule of doubling, in closed form, and that it keeps multiples.
-use Rattle.std.proofs.Common.{◌≡◌, ℕ, zero, suc, ◌+◌, ◌-◌, ◌*◌, ◌%◌, ◌^◌, ◌<◌, ◌≤◌, Bool, true, false, cond, leb, ◌⊎◌, sym, refl, ap, ◌∙◌, subst, inl, inr, mul-le-mul_right, mod-eq_of_lt, mul_assoc, mul_comm, mul-le-mul_left, mul-lt-mul_of_pos_right, pow-suc, mul-one, arith, pow_pos, pow_mono, pow-add}
+use Rattle.std.proofs.Common.{◌≡◌, ℕ, zero, suc, ◌+◌, ◌-◌, ◌*◌, ◌%◌, ◌^◌, ◌<◌, ◌≤◌, true, false, cond, leb, sym, ap, ◌∙◌, inl, inr, mul-le-mul_right, mod-eq_of_lt, mul_assoc, mul_comm, mul-le-mul_left, mul-lt-mul_of_pos_right, pow-suc, mul-one, arith, pow_pos, pow_mono, pow-add}
 use native.Mathlib.Nat.{mul-mod_right}
 use Rattle.std.proofs.lemmas.Bool.{le-leb, lt-leb, cond-true, cond-false, cases_lt}
-use Rattle.std.proofs.lemmas.Nat.{leading_top, mul-le, mul-lt}
+use Rattle.std.proofs.lemmas.Nat.{leading_top}
 use lib.Count.{count_leading_zeros}
 use Rattle.geometry.specs.Boundary.{doubled_while, boundary_for}
 use Rattle.geometry.specs.Laws.{Size}

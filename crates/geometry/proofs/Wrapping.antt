@@ -1,10 +1,9 @@
 -- Sums that wrap at a boundary.
-use Rattle.std.proofs.Common.{◌≡◌, ℕ, ◌+◌, ◌-◌, ◌*◌, ◌/◌, ◌%◌, ◌<◌, ◌≤◌, ◌⊎◌, sym, refl, ap, ◌∙◌, inl, inr, mod-lt, mod-eq_of_lt, add-mul, div-add-mod', arith}
+use Rattle.std.proofs.Common.{◌≡◌, ℕ, ◌+◌, ◌-◌, ◌*◌, ◌/◌, ◌%◌, ◌<◌, ◌≤◌, sym, ap, ◌∙◌, mod-lt, mod-eq_of_lt, add-mul, div-add-mod', arith}
 use native.Mathlib.Nat.{mod-mod, mod-add-mod, add-mul-mod_self_right, add-mod_right, mod-mod_of_dvd, dvd_of_mod-eq-zero}
 use Rattle.std.proofs.lemmas.Nat.{le-div}
 use Rattle.geometry.specs.Boundary.{boundary_for}
 use Rattle.geometry.specs.Laws.{Size}
-use Rattle.geometry.specs.Rules.{Wraps}
 use Rattle.geometry.specs.Pointers.{pointer_of, place_of, playback_avail, capture_avail}
 use Rattle.geometry.proofs.Doubling.{boundary_wraps}
 

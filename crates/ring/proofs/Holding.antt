@@ -1,7 +1,7 @@
 -- The elements that a ring holds.
-use Rattle.std.proofs.Common.{◌≡◌, ℕ, ◌+◌, ◌-◌, ◌%◌, ◌<◌, ◌≤◌, min, ◌≢◌, ◌⊎◌, List, [], ◌∷◌, ◌++◌, length, get_or, take, drop, set, sym, refl, ap, ◌∙◌, inl, inr, add_assoc, mod-lt, arith}
+use Rattle.std.proofs.Common.{◌≡◌, ℕ, ◌+◌, ◌-◌, ◌%◌, ◌<◌, ◌≤◌, List, [], ◌∷◌, ◌++◌, length, get_or, take, drop, set, sym, refl, ap, ◌∙◌, inl, inr, add_assoc, mod-lt, arith}
 use native.Mathlib.Nat.{mod-add-mod}
-use Rattle.std.proofs.lemmas.List.{length-take, length-drop, length-append, length-set, length_push, length-take-le, get_or-take, get_or-drop, get_or_append_left, get_or-append_right, get_or-set_same, get_or-set_other, get_or_push, same_lists, take-append-le, drop_more}
+use Rattle.std.proofs.lemmas.List.{length-drop, length-append, length-set, length_push, length-take-le, get_or-take, get_or-drop, get_or_append_left, get_or-append_right, get_or-set_same, get_or-set_other, get_or_push, same_lists, take-append-le, drop_more}
 use Rattle.std.proofs.lemmas.Bool.{cases_lt, cases_eq}
 use Rattle.ring.specs.Held.{held}
 use Rattle.ring.proofs.Places.{place_cases, places_differ}

@@ -1,8 +1,8 @@
 -- What the answers of a ring mean, for its callers.
-use Rattle.std.proofs.Common.{◌≡◌, ℕ, ◌+◌, ◌-◌, ◌%◌, ◌<◌, ◌≤◌, Bool, true, false, List, [], ◌∷◌, ◌++◌, length, drop, Some, MatchBool, sym, ap, ◌∙◌, subst, arith}
+use Rattle.std.proofs.Common.{◌≡◌, ℕ, ◌+◌, ◌-◌, ◌%◌, ◌≤◌, Bool, true, false, List, ◌∷◌, ◌++◌, drop, Some, MatchBool, sym, ap, ◌∙◌, subst, arith}
 use Rattle.ring.specs.declared.span.Span.{Span}
 use Rattle.ring.specs.Held.{held}
-use Rattle.ring.specs.Spans.{Has, Same, next_of, holds}
+use Rattle.ring.specs.Spans.{Has, next_of, holds}
 use Rattle.ring.specs.Moves.{Frees, TakesIn}
 use Rattle.ring.specs.Rings.{Fits, Reads, GivesUp}
 use Rattle.ring.proofs.Holding.{held_free, held_more}

@@ -1,5 +1,5 @@
 -- Writes to the places that a ring does not hold, as its owner does before they are taken in.
-use Rattle.std.proofs.Common.{◌≡◌, ℕ, ◌+◌, ◌-◌, ◌%◌, ◌<◌, ◌≤◌, ◌⊎◌, List, [], ◌∷◌, ◌++◌, length, get_or, take, drop, set, sym, refl, ap, ◌∙◌, inl, inr, arith}
+use Rattle.std.proofs.Common.{◌≡◌, ℕ, ◌+◌, ◌-◌, ◌%◌, ◌<◌, ◌≤◌, List, ◌++◌, length, get_or, take, drop, set, ap, ◌∙◌, inl, inr, arith}
 use lib.Seq.{paste, length-paste, length_paste_head}
 use Rattle.std.proofs.lemmas.List.{append_assoc, length-set, length-take-le, get_or-take, get_or-drop, get_or_append_left, get_or-append_right, get_or-set_other, take_at, drop_at}
 use Rattle.ring.specs.Held.{held}

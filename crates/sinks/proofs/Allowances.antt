@@ -1,5 +1,5 @@
 -- How many frames a keep layer takes, by those that the sink below takes. Assumes nothing.
-use Rattle.std.proofs.Common.{◌≡◌, ℕ, ◌+◌, ◌-◌, ◌*◌, ◌<◌, ◌≤◌, min, ap, mul-le-mul_right, add-mul, one-mul, zero-mul, arith}
+use Rattle.std.proofs.Common.{◌≡◌, ℕ, ◌+◌, ◌-◌, ◌*◌, ◌<◌, ◌≤◌, min, mul-le-mul_right, add-mul, one-mul, arith}
 
 pub some_left : (b M fall k : ℕ) → 0 < b → 0 < M → 0 < k → 0 < min (b * M + fall) k
 some_left b M fall k p m q =

@@ -1,8 +1,8 @@
 -- Chains of obeyed offers, and what a sink has taken over them. Assumes nothing.
-use Rattle.std.proofs.Common.{◌≡◌, ℕ, List, [], ◌∷◌, ◌++◌, length, drop, sym, refl, ap, ◌∙◌, subst}
+use Rattle.std.proofs.Common.{◌≡◌, List, [], ◌∷◌, ◌++◌, length, drop, sym, refl, ap, ◌∙◌, subst}
 use Rattle.std.proofs.lemmas.List.{append-nil, append_assoc}
 use Rattle.frames.specs.declared.frame.Frame.{Frame}
-use Rattle.sinks.specs.Making.{once, Lawful}
+use Rattle.sinks.specs.Making.{Lawful}
 use Rattle.sinks.specs.Sink.{SinkPoints, Offered, Offers, Took, Heals}
 use Rattle.sinks.specs.Rules.{once_is}
 

@@ -3,7 +3,7 @@
 --   Feeds         the frames taken are the first, each by one obeyed offer, and what was heard is what the making rule makes
 --                 of them
 -- Assumes nothing.
-use Rattle.std.specs.Prelude.{◌≡◌, ℕ, ◌<◌, List, [], ◌∷◌, ◌++◌, length, take, Some, None, Option}
+use Rattle.std.specs.Prelude.{◌≡◌, ℕ, ◌<◌, List, length, take, Some, None, Option}
 use Rattle.frames.specs.declared.frame.Frame.{Frame}
 use Rattle.sinks.specs.declared.feed.Fed.{Fed}
 use Rattle.sinks.specs.declared.stop.Stop.{Stop}

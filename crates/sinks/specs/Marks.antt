@@ -6,7 +6,7 @@
 --   lifted m        the place of the next mark, after the one at which it stands is removed
 --   CheckedMarks   what a check answers: at most 16 marks, strictly rising
 -- Assumes nothing.
-use Rattle.std.specs.Prelude.{◌≡◌, ℕ, ◌+◌, ◌-◌, ◌≤◌, min, Bool, true, false, cond, ◌&&◌, List, length, take, Ok, Err, Result, ◌==◌, nat_lt, slice_index}
+use Rattle.std.specs.Prelude.{◌≡◌, ℕ, ◌+◌, ◌-◌, ◌≤◌, min, Bool, cond, ◌&&◌, List, length, take, Ok, Err, Result, ◌==◌, nat_lt, slice_index}
 use Rattle.codes.specs.declared.refusal.Refusal.{Refusal}
 use Rattle.codes.specs.declared.refusal.Refusal.TheVariants.{Layer}
 use Rattle.sinks.specs.declared.marks.Marks.{Marks}

@@ -1,5 +1,5 @@
 -- Making rules that are lawful. Assumes nothing.
-use Rattle.std.specs.Prelude.{◌≡◌, ℕ, List, [], ◌∷◌, ◌++◌, map, reverse, length, drop, ℤ, refl}
+use Rattle.std.specs.Prelude.{◌≡◌, ℕ, List, [], ◌++◌, map, reverse, length, drop, ℤ, refl}
 use Rattle.std.proofs.Common.{sym, ap, ◌∙◌}
 use Rattle.std.proofs.lemmas.List.{map-append, drop_at}
 use Rattle.frames.specs.declared.frame.Frame.{Frame}

@@ -3,7 +3,7 @@
 --   full         the stop of a tape
 --   fault        the stop of a fault layer at its mark
 -- Assumes nothing.
-use Rattle.std.specs.Prelude.{ℕ, ◌+◌, min}
+use Rattle.std.specs.Prelude.{◌+◌, min}
 use Rattle.codes.specs.Causes.{cause_full, cause_fault}
 use Rattle.sinks.specs.declared.stop.Stop.{Stop}
 

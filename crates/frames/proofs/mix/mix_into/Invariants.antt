@@ -1,4 +1,4 @@
-use Rattle.std.proofs.Common.{◌≡◌, ◌≤◌, length, take}
+use Rattle.std.proofs.Common.{◌≡◌, ◌≤◌, take}
 use Rattle.frames.specs.Samples.{mixed_all}
 use Rattle.frames.proofs.mix.mix_into.Given as goal
 

@@ -1,4 +1,4 @@
-use Rattle.std.proofs.Common.{◌*ℤ◌, refl, w16, w64, SFits}
+use Rattle.std.proofs.Common.{◌*ℤ◌, w16, w64, SFits}
 use Rattle.std.proofs.lemmas.Int.{to_z-of_z}
 use Rattle.frames.proofs.Products.{product_bound, product_fits, widen}
 use Rattle.frames.proofs.weighing.product.Goals as goal

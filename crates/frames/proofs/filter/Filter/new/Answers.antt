@@ -1,4 +1,4 @@
-use Rattle.std.proofs.Common.{◌≡◌, length, get_or, pos, refl, arith, w16, SFits, rules}
+use Rattle.std.proofs.Common.{◌≡◌, length, get_or, pos, arith, w16, SFits, rules}
 use Rattle.std.proofs.lemmas.Int.{to_z-of_z}
 use Rattle.frames.proofs.Line.{silence_mirrored}
 use Rattle.frames.proofs.FilterSteps.{just_made}

@@ -1,7 +1,7 @@
 use Rattle.std.proofs.Common.{◌≡◌, ℕ, ◌<◌, List, ◌∷◌, length, take, ℤ, sym, refl, ap, ◌∙◌, subst, arith}
 use Rattle.frames.specs.Filters.{earlier_left, earlier_right, weights}
 use Rattle.frames.specs.Mirror.{Mirrored, recent}
-use Rattle.frames.proofs.Line.{placed, placed_mirrored, recent_placed}
+use Rattle.frames.proofs.Line.{placed_mirrored, recent_placed}
 use Rattle.frames.proofs.FilterSteps.{one_frame_later}
 use Rattle.frames.proofs.filter.Filter.push.Goals as goal
 

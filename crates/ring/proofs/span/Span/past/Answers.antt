@@ -1,4 +1,4 @@
-use Rattle.std.proofs.Common.{◌≡◌, ℕ, ◌+◌, ◌-◌, sym, ◌∙◌, arith}
+use Rattle.std.proofs.Common.{◌+◌, sym, arith}
 use Rattle.ring.proofs.Places.{mod_before, mod_past}
 use Rattle.ring.proofs.span.Span.past.Goals as goal
 

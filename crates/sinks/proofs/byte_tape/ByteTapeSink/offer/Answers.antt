@@ -1,4 +1,4 @@
-use Rattle.std.proofs.Common.{◌≡◌, ◌+◌, ◌*◌, ◌≤◌, length, take, refl, ap, ◌∙◌, arith, w16, SFits, rules}
+use Rattle.std.proofs.Common.{◌+◌, ◌*◌, ◌≤◌, length, take, refl, ap, ◌∙◌, arith, w16, SFits, rules}
 use Rattle.frames.specs.Layout.{frames_of}
 use Rattle.sinks.proofs.TapeBytes.{one_frame_more}
 use Rattle.sinks.proofs.byte_tape.ByteTapeSink.offer.Goals as goal
