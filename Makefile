@@ -1,11 +1,9 @@
 # Two commands do everything on a machine with the kit: `make run` and `make test`.
 .PHONY: run test
 
-# Proves, builds and runs the program on the recording that is stored with it.
+# Proves, builds and runs the program on the recording that is stored with it. The program stays as crates/desk/out/desk.
 run:
-	rt check desk > target.log 2>&1 || { tail -n 40 target.log; rm -f target.log; exit 1; }
-	@rm -f target.log
-	@target/bin/desk < crates/desk/stdin
+	@cd crates/desk && mkdir -p out && rt run < stdin 2> out/run.log || { tail -n 40 out/run.log; exit 1; }
 
 # Everything: all proofs from nothing, the edits that must be refused, the program's output and the tests.
 test:
