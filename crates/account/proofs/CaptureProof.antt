@@ -1,5 +1,5 @@
 -- Capture: every frame and every lease is accounted for, after any calls since set-up. Assumes nothing.
-use Rattle.std.proofs.Common.{◌≡◌, ℕ, ◌+◌, ◌-◌, ◌%◌, ◌<◌, ◌≤◌, true, false, not, eqb, ltb, List, [], ◌∷◌, ◌++◌, map, length, get_or, take, drop, is_some, Some, None, Option, sym, refl, ap, ◌∙◌, inl, inr, mod-lt, arith}
+use Rattle.std.proofs.Common.{◌≡◌, ℕ, ◌+◌, ◌-◌, ◌%◌, ◌<◌, ◌≤◌, true, false, not, eqb, ltb, ◌≢◌, List, [], ◌∷◌, ◌++◌, map, length, get_or, take, drop, is_some, Some, None, Option, sym, refl, ap, ◌∙◌, inl, inr, mod-lt, arith}
 use native.Mathlib.Nat.{mod-add-mod}
 use lib.Seq.{paste}
 use Rattle.std.proofs.lemmas.Bool.{cases_lt, cases_Bool, leb-false, ltb-false, eqb-true, eqb-false, not-false, lt-ltb, both_ways}
@@ -38,17 +38,26 @@ use Rattle.account.specs.Histories.{Leads}
 use Rattle.account.specs.Numbers.{numbers, times, lies}
 use Rattle.account.specs.CaptureHistory.{Situation, RestSame, Step, Past, left_the_list, given_up, unread, handed_over, frames_handed_over, copied_numbers, frames_copied, answered, entries, deeds}
 use Rattle.account.specs.Promise.{CaptureAccount}
+use Rattle.account.proofs.Allowed.{among_these}
 use Rattle.account.proofs.Booking.{booked_once, booked_no_other}
 use Rattle.account.proofs.Framing.{Framed, framed_none, framed_more, framed_go, framed_lose, framed_empty, framed_miss, stored_held, length_stored, area_frames}
+use Rattle.account.proofs.Histories.{holds_along, at_each_moment}
 use Rattle.account.proofs.LedgerSteps.{LedgerKept, ledger_noted, entries_noted, entries_taken, ledger_taken, further_are}
 use Rattle.account.proofs.Lent.{none_out, held_is, Lent, lent_none, lent_grant, lent_back, lent_commit, lent_void, lent_once, Area, further, area_places}
+use Rattle.account.proofs.CaptureMeaning.{Means, means_step, no_wrong_state}
 use Rattle.account.proofs.Copying.{area_written, put_back}
 use Rattle.account.proofs.PlaybackProof.{has_room}
 use Rattle.account.proofs.Refusals.{cases_if, refused_or_obeyed}
-use Rattle.account.proofs.Stretches.{times_append, times_inside, times_after, take_numbers, drop_numbers, map_get_or_append, length_numbers}
+use Rattle.account.proofs.Stretches.{times_append, times_within, times_inside, times_after, take_numbers, drop_numbers, map_get_or_append, length_numbers}
+use Rattle.account.proofs.Stretching.{Throws, Rising, rising_later, rising_missed, rising_thrown}
+use Rattle.account.proofs.Ticking.{tick_leaves_unread}
 
 pub made : {R : Type 0} {u : Situation R} {b : Book} {source : R} {m : List Frame} {ledger : List Entry} {host : List Frame} → u.stream ≡ b → u.source ≡ source → u.memory ≡ m → u.ledger ≡ ledger → u.host ≡ host → u ≡ record { stream = b; source = source; memory = m; ledger = ledger; host = host }
 made a b c d e = rw (sym a, sym b, sym c, sym d, sym e)
+
+not_in_xrun : (s : State) → s ≢ Xrun → among s (Xrun ∷ []) ≡ false
+not_in_xrun s elsewhere =
+    elim (cases_Bool (among s (Xrun ∷ []))) [ inl there ↦ absurd (elsewhere (among_these (λ x. x ≡ Xrun) (Xrun ∷ []) (refl, tt) s there)) | inr e ↦ e ]
 
 -- none of these calls is obeyed in XRUN
 not_from_xrun : (k : CallKind) (w : ℕ) → is_refusal (capture_decides Xrun k w) ≡ true → (s : State) → is_refusal (capture_decides s k w) ≡ false → among s (Xrun ∷ []) ≡ false
@@ -94,6 +103,7 @@ module _ {R : Type 0} (p : SourcePoints R) (start : Situation R) where
     pub lent : Lent (deeds h) end.stream.lending.granted end.stream.lending.out
     pub area_out : Area end.stream.lending.out end.stream.geometry.buffer end.stream.oldest (end.stream.oldest + end.stream.unread)
     pub ledgered : LedgerKept end.stream.ledger end.ledger end.stream.geometry.ledger
+    pub rising : Rising (answered h ++ entries_of end.stream.ledger end.ledger) end.stream.oldest end.stream.given_up
 
   -- a stream just set up, with memory of its sizes
   pub record FreshStart : Type 0 where
@@ -114,6 +124,7 @@ module _ {R : Type 0} (p : SourcePoints R) (start : Situation R) where
         lent = lent_none;
         area_out = tt;
         ledgered = record { within = omega (arith, g.lawful.3.0); few = omega arith; long = up.ledger_whole; sized = refl };
+        rising = record { missed = omega arith; thrown = omega arith };
       })
 
   module _ (past : Past R) (t : Situation R) (held_so : Kept past t) where
@@ -132,11 +143,11 @@ module _ {R : Type 0} (p : SourcePoints R) (start : Situation R) where
 
     kept_nothing : (c : CaptureCall) (r : Answer) → of_capture_call c r ≡ nothing → Kept (then c r t) t
     kept_nothing c r e =
-        record { framed = rw (e, same_given) held_so.framed; handed = rw e (held_so.handed ∙ at_same (handed_over p past)); copied = rw e (held_so.copied ∙ at_same (copied_numbers p past)); copied_below = rw e held_so.copied_below; flows = rw same_given held_so.flows; gapless = held_so.gapless; lent = rw e held_so.lent; area_out = held_so.area_out; ledgered = held_so.ledgered }
+        record { framed = rw (e, same_given) held_so.framed; handed = rw e (held_so.handed ∙ at_same (handed_over p past)); copied = rw e (held_so.copied ∙ at_same (copied_numbers p past)); copied_below = rw e held_so.copied_below; flows = rw same_given held_so.flows; gapless = held_so.gapless; lent = rw e held_so.lent; area_out = held_so.area_out; ledgered = held_so.ledgered; rising = rw e held_so.rising }
 
     kept_turned : (c : CaptureCall) (s : State) → of_capture_call c Done ≡ nothing → among t.stream.state (Xrun ∷ []) ≡ false → Kept (then c Done (with (turned t.stream s))) (with (turned t.stream s))
     kept_turned c s e alive =
-        record { framed = rw (e, same_given) held_so.framed; handed = rw e (held_so.handed ∙ at_same (handed_over p past)); copied = rw e (held_so.copied ∙ at_same (copied_numbers p past)); copied_below = rw e held_so.copied_below; flows = rw same_given held_so.flows; gapless = λ z. held_so.gapless alive; lent = rw e held_so.lent; area_out = held_so.area_out; ledgered = held_so.ledgered }
+        record { framed = rw (e, same_given) held_so.framed; handed = rw e (held_so.handed ∙ at_same (handed_over p past)); copied = rw e (held_so.copied ∙ at_same (copied_numbers p past)); copied_below = rw e held_so.copied_below; flows = rw same_given held_so.flows; gapless = λ z. held_so.gapless alive; lent = rw e held_so.lent; area_out = held_so.area_out; ledgered = held_so.ledgered; rising = rw e held_so.rising }
 
     kept_begin : (wanted : ℕ) → t.stream.lending.out ≡ None → let u : Situation R = with (lends t.stream (with_out t.stream.lending (next_lease t.stream wanted))) in Kept (then (Begin wanted) (Granted (next_lease t.stream wanted)) u) u
     kept_begin wanted none =
@@ -151,11 +162,12 @@ module _ {R : Type 0} (p : SourcePoints R) (start : Situation R) where
           lent = lent_grant (rw none at held_so.lent) (next_lease t.stream wanted) refl;
           area_out = (refl, omega arith, omega arith);
           ledgered = held_so.ledgered;
+          rising = held_so.rising;
         }
 
     kept_back : (l : LeaseParts) (n : ℕ) (why : Refusal) → t.stream.lending.out ≡ Some l → ends_lease why ≡ true → let u : Situation R = with (lends t.stream (with_none t.stream.lending)) in Kept (then (Commit l n) (Refused why) u) u
     kept_back l n why out ends =
-        record { framed = rw (ends, same_given) held_so.framed; handed = rw ends (held_so.handed ∙ at_same (handed_over p past)); copied = rw ends (held_so.copied ∙ at_same (copied_numbers p past)); copied_below = rw ends held_so.copied_below; flows = rw same_given held_so.flows; gapless = held_so.gapless; lent = rw ends (lent_back l (rw out at held_so.lent)); area_out = tt; ledgered = held_so.ledgered }
+        record { framed = rw (ends, same_given) held_so.framed; handed = rw ends (held_so.handed ∙ at_same (handed_over p past)); copied = rw ends (held_so.copied ∙ at_same (copied_numbers p past)); copied_below = rw ends held_so.copied_below; flows = rw same_given held_so.flows; gapless = held_so.gapless; lent = rw ends (lent_back l (rw out at held_so.lent)); area_out = tt; ledgered = held_so.ledgered; rising = rw ends held_so.rising }
 
     kept_commit : (l : LeaseParts) (n : ℕ) → t.stream.lending.out ≡ Some l → n ≤ l.length → among t.stream.state (Xrun ∷ []) ≡ false → let u : Situation R = with (read t.stream n) in Kept (then (Commit l n) Done u) u
     kept_commit l n out within alive =
@@ -186,6 +198,7 @@ module _ {R : Type 0} (p : SourcePoints R) (start : Situation R) where
           lent = lent_commit n l (rw out at held_so.lent);
           area_out = tt;
           ledgered = held_so.ledgered;
+          rising = rising_later held_so.rising (o + n) t.stream.given_up (omega arith) (omega arith);
         }
 
     kept_take : let u : Situation R = with (noted_as t.stream (with_taken t.stream.ledger)) in Kept (then (Take Own) (Taken (oldest_of t.stream.ledger t.ledger)) u) u
@@ -194,7 +207,7 @@ module _ {R : Type 0} (p : SourcePoints R) (start : Situation R) where
         let es = t.ledger in
         let same : (answered past ++ entry_list (oldest_of n es)) ++ entries_of (with_taken n) es ≡ answered past ++ entries_of n es =
         append_assoc (answered past) (entry_list (oldest_of n es)) (entries_of (with_taken n) es) ∙ ap (λ xs. answered past ++ xs) (sym (entries_taken held_so.ledgered)) in
-        record { framed = rw (same, same_given) held_so.framed; handed = held_so.handed ∙ at_same (handed_over p past); copied = held_so.copied ∙ at_same (copied_numbers p past); copied_below = held_so.copied_below; flows = rw same_given held_so.flows; gapless = held_so.gapless; lent = held_so.lent; area_out = held_so.area_out; ledgered = ledger_taken held_so.ledgered }
+        record { framed = rw (same, same_given) held_so.framed; handed = held_so.handed ∙ at_same (handed_over p past); copied = held_so.copied ∙ at_same (copied_numbers p past); copied_below = held_so.copied_below; flows = rw same_given held_so.flows; gapless = held_so.gapless; lent = held_so.lent; area_out = held_so.area_out; ledgered = ledger_taken held_so.ledgered; rising = rw same held_so.rising }
 
     kept_copy : (l : LeaseParts) (j x n : ℕ) (host' : List Frame) → t.stream.lending.out ≡ Some l → j + length (area t.host x n) ≤ l.length → area host' x n ≡ area t.memory (l.place + j) (length (area t.host x n))
         → let u : Situation R = record { stream = t.stream; source = t.source; memory = t.memory; ledger = t.ledger; host = host' } in Kept (then (Copy Own l j x n) Done u) u
@@ -227,6 +240,7 @@ module _ {R : Type 0} (p : SourcePoints R) (start : Situation R) where
           lent = held_so.lent;
           area_out = held_so.area_out;
           ledgered = held_so.ledgered;
+          rising = held_so.rising;
         }
 
     -- an entry that is due goes behind the others
@@ -235,10 +249,10 @@ module _ {R : Type 0} (p : SourcePoints R) (start : Situation R) where
         ap (λ xs. answered past ++ xs) (entries_noted held_so.ledgered due space) ∙ sym (append_assoc (answered past) (entries_of t.stream.ledger t.ledger) (entry_list due))
 
     -- all that is unread is thrown away, and lies in an entry
-    kept_emptied : (k : EntryKind) (c : CaptureCall) (s : State) → of_capture_call c Done ≡ was_emptied
+    kept_emptied : (k : EntryKind) (c : CaptureCall) (s : State) → Throws k → of_capture_call c Done ≡ was_emptied
         → (ltb 0 t.stream.unread ≡ true → t.stream.ledger.count < t.stream.ledger.size)
         → let u : Situation R = record { stream = emptied t.stream s (loss k t.stream); source = t.source; memory = t.memory; ledger = noted t.stream.ledger t.ledger (loss k t.stream); host = t.host } in Kept (then c Done u) u
-    kept_emptied k c s e has =
+    kept_emptied k c s throws e has =
         let b = t.stream in
         let f = held_so.framed in
         let none_more : b.given_up + 0 ≡ b.given_up = omega arith in
@@ -255,6 +269,7 @@ module _ {R : Type 0} (p : SourcePoints R) (start : Situation R) where
                 lent = rw e (lent_void b.lending.out held_so.lent);
                 area_out = tt;
                 ledgered = rw none held_so.ledgered;
+                rising = rw (e, none) (rising_later held_so.rising b.given_up b.given_up (omega (arith, f.low, f.top)) (omega arith));
               }
           | inr some ↦
               let unread_some : 0 < b.unread = elim (cases_lt 0 b.unread) [ inl l ↦ l | inr g ↦ absurd (eqb-false b.unread 0 some (omega arith)) ] in
@@ -272,6 +287,7 @@ module _ {R : Type 0} (p : SourcePoints R) (start : Situation R) where
                 lent = rw e (lent_void b.lending.out held_so.lent);
                 area_out = tt;
                 ledgered = rw some (ledger_noted held_so.ledgered (Some x) (λ y. space));
+                rising = rw (e, some, book) (rising_later (rising_thrown held_so.rising x throws (omega arith)) b.given_up b.given_up (omega (arith, f.top)) (omega arith));
               }
         ]
 
@@ -323,6 +339,7 @@ module _ {R : Type 0} (p : SourcePoints R) (start : Situation R) where
                 lent = held_so.lent;
                 area_out = further b.lending.out _ _ _ _ held_so.area_out (omega arith);
                 ledgered = rw full (ledger_noted held_so.ledgered (Some x) (λ y. space));
+                rising = rw (full, book, sym total) (rising_missed held_so.rising x refl refl (omega arith));
               }
           | inr not_full ↦
               let nil : missing ≡ 0 = none_lost b came not_full (omega (arith, f.fits)) in
@@ -338,12 +355,13 @@ module _ {R : Type 0} (p : SourcePoints R) (start : Situation R) where
                 lent = held_so.lent;
                 area_out = further b.lending.out _ _ _ _ held_so.area_out (omega arith);
                 ledgered = rw not_full held_so.ledgered;
+                rising = rw not_full (rising_later held_so.rising o (b.given_up + (n + missing)) (omega arith) (omega arith));
               }
         ])
 
     kept_still : (k : ℕ) (s : State) → Kept (then (Tick Own Own k) (Ticked (record { frames = 0; state = s; periods = 0 })) t) t
     kept_still k s =
-        record { framed = rw (append-nil (unread p past), same_given) held_so.framed; handed = held_so.handed ∙ at_same (handed_over p past); copied = held_so.copied ∙ at_same (copied_numbers p past); copied_below = held_so.copied_below; flows = rw same_given held_so.flows; gapless = held_so.gapless; lent = held_so.lent; area_out = held_so.area_out; ledgered = held_so.ledgered }
+        record { framed = rw (append-nil (unread p past), same_given) held_so.framed; handed = held_so.handed ∙ at_same (handed_over p past); copied = held_so.copied ∙ at_same (copied_numbers p past); copied_below = held_so.copied_below; flows = rw same_given held_so.flows; gapless = held_so.gapless; lent = held_so.lent; area_out = held_so.area_out; ledgered = held_so.ledgered; rising = held_so.rising }
 
     kept_another : (c : CaptureCall) (r : Answer) (u : Situation R) → of_capture_call c (Refused refusal.Memory) ≡ nothing → Refuses refusal.Memory r t u → Kept (then c r u) u
     kept_another c r u e step = rw (step.0, step.1) (kept_nothing c (Refused refusal.Memory) e)
@@ -360,13 +378,13 @@ module _ {R : Type 0} (p : SourcePoints R) (start : Situation R) where
           | inr go ↦ rw (go.1.answer, made go.1.stream rest.source_same rest.memory_same rest.ledger_same rest.host_same) (kept_turned c _ d (not_from_xrun k t.stream.unread not-xrun t.stream.state go.0.0))
         ]
 
-    kept_empties : (k : EntryKind) (c : CaptureCall) (kind : CallKind) (r : Answer) (u : Situation R) → ((why : Refusal) → of_capture_call c (Refused why) ≡ nothing) → of_capture_call c Done ≡ was_emptied
+    kept_empties : (k : EntryKind) (c : CaptureCall) (kind : CallKind) (r : Answer) (u : Situation R) → Throws k → ((why : Refusal) → of_capture_call c (Refused why) ≡ nothing) → of_capture_call c Done ≡ was_emptied
         → Unless {T = Book × List Entry} (no_emptying t.stream kind t.ledger) r (t.stream, t.ledger) (u.stream, u.ledger) (Emptied t.stream kind (loss k t.stream) t.ledger r u.stream u.ledger)
         → u.source ≡ t.source → u.memory ≡ t.memory → u.host ≡ t.host → Kept (then c r u) u
-    kept_empties k c kind r u e d step a m h =
+    kept_empties k c kind r u throws e d step a m h =
         elim (refused_or_obeyed (no_emptying t.stream kind t.ledger) step) [
           | inl stop ↦ rw (stop.1.0, made (ap (λ x. x.0) stop.1.1) a m (ap (λ x. x.1) stop.1.1) h) (kept_nothing c (Refused stop.0) (e stop.0))
-          | inr go ↦ rw (go.1.answer, made go.1.stream a m go.1.ledger h) (kept_emptied k c _ d (has_room t.stream.ledger t.stream.unread go.0.1.1.0))
+          | inr go ↦ rw (go.1.answer, made go.1.stream a m go.1.ledger h) (kept_emptied k c _ throws d (has_room t.stream.ledger t.stream.unread go.0.1.1.0))
         ]
 
     kept_step : (c : CaptureCall) (r : Answer) (u : Situation R) → Step p t c r u → Kept (then c r u) u
@@ -432,9 +450,9 @@ module _ {R : Type 0} (p : SourcePoints R) (start : Situation R) where
           | inl stop ↦ kept_refused Drain refusal.LeaseOut r u refl stop.1.0 stop.1.1 step.1
           | inr go ↦ kept_turns Drain call.Drain r u (λ why. refl) refl refl go.1 step.1
         ]
-    kept_step (Drop Own) r u step = kept_empties kinds.Dropped (Drop Own) call.Drop r u (λ why. refl) refl step.0 step.1 step.2 step.3
+    kept_step (Drop Own) r u step = kept_empties kinds.Dropped (Drop Own) call.Drop r u (refl, refl) (λ why. refl) refl step.0 step.1 step.2 step.3
     kept_step (Drop Another) r u step = kept_another (Drop Another) r u refl step
-    kept_step (Prepare Own) r u step = kept_empties kinds.Prepared (Prepare Own) call.Prepare r u (λ why. refl) refl step.0 step.1 step.2 step.3
+    kept_step (Prepare Own) r u step = kept_empties kinds.Prepared (Prepare Own) call.Prepare r u (refl, refl) (λ why. refl) refl step.0 step.1 step.2 step.3
     kept_step (Prepare Another) r u step = kept_another (Prepare Another) r u refl step
     kept_step (Take Own) r u step =
         let rest = step.1 in
@@ -447,6 +465,11 @@ module _ {R : Type 0} (p : SourcePoints R) (start : Situation R) where
   kept_always : FreshStart → (h : Past R) (end : Situation R) → Leads (Step p) start h end → Kept h end
   kept_always up [] end led = rw led (kept_start up)
   kept_always up (m ∷ past) end led = rw led.2 (kept_step past m.before (kept_always up past m.before led.0) m.call m.answer m.after led.1)
+
+  means_always : FreshStart → (h : Past R) (end : Situation R) → Leads (Step p) start h end → Means end.stream
+  means_always up =
+      holds_along (Step p) (λ t. Means t.stream) (rw up.fresh_stream (refl, refl))
+      (λ past m led step means. means_step p m.before m.after m.answer means m.call step)
 
   pub capture_accounted : (h : Past R) (end : Situation R) → FreshStart → Leads (Step p) start h end → CaptureAccount p start h end
   capture_accounted h end up led =
@@ -475,7 +498,18 @@ module _ {R : Type 0} (p : SourcePoints R) (start : Situation R) where
             let at = area_places _ _ _ _ x held_so.area_out inside in
             let waits = times_inside at.0 end.stream.oldest ((end.stream.oldest + end.stream.unread) - end.stream.oldest) at.1 (omega arith) in
             (at.0, rw (f.waits_are, waits) (omega arith), at.3);
+        ticks_leave_what_is_unread =
+            at_each_moment (Step p) _
+            (λ past m before step tick n some.
+            let f' = (kept_always up past m.before before).framed in
+            let there = times_within n _ _ (rw f'.waits_are at some) in
+            tick_leaves_unread p m.before m.after m.answer f'.sized (omega (arith, f'.fits)) n there.0 (omega arith) m.call step tick) h end led;
         lost_stretches_are_apart = λ n. elim (cases_lt n (length fs)) [ inl l ↦ omega (arith, once n l) | inr far ↦ omega (arith, no_other n far) ];
+        overruns_rise = rw told held_so.rising.missed;
+        thrown_away_rise = rw told held_so.rising.thrown;
+        unread_are_the_last_given_up_unless_in_xrun = λ elsewhere. rw (unread_count, f.count) (held_so.gapless (not_in_xrun end.stream.state elsewhere));
+        states_mean_what_they_say = rw unread_count (means_always up h end led);
+        no_lease_meets_a_wrong_state = at_each_moment (Step p) _ (λ past m before step. no_wrong_state p m.before m.after m.answer (means_always up past m.before before) m.call step) h end led;
         counts_are_the_words = (sym f.count, sym unread_count);
         avail_is_what_is_unread = rw (g.doubled, unread_count) (captured_unread g.buffer end.stream.oldest end.stream.unread g.lawful.0 (omega (arith, f.fits)));
       }

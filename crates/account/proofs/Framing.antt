@@ -2,7 +2,7 @@
 -- Assumes nothing.
 use Rattle.std.proofs.Common.{◌≡◌, ℕ, zero, suc, ◌+◌, ◌-◌, ◌%◌, ◌<◌, ◌≤◌, List, [], ◌∷◌, ◌++◌, map, length, get_or, take, drop, set, sym, refl, ap, ◌∙◌, mod-lt, arith}
 use native.Mathlib.Nat.{mod-add-mod}
-use Rattle.std.proofs.lemmas.List.{length-append, length-drop, length-set, append_assoc, append-nil, take_all, take-append-le, drop-append-le, drop-drop, drop-take, take-take}
+use Rattle.std.proofs.lemmas.List.{length-append, length-drop, length-set, get_or-set_other, append_assoc, append-nil, take_all, take-append-le, drop-append-le, drop-drop, drop-take, take-take}
 use Rattle.frames.specs.declared.frame.Frame.{Frame}
 use Rattle.frames.specs.Samples.{silence}
 use Rattle.ring.specs.Held.{held}
@@ -10,7 +10,7 @@ use Rattle.ring.proofs.Holding.{held_free, held_more, held_set, held_area}
 use Rattle.account.specs.Capture.{stored}
 use Rattle.calls.specs.declared.entry.Entry.{Entry}
 use Rattle.account.specs.Numbers.{numbers}
-use Rattle.account.proofs.Stretches.{numbers_split, take_numbers, drop_numbers, place_of, frames_numbered}
+use Rattle.account.proofs.Stretches.{numbers_split, take_numbers, drop_numbers, place_of, places_differ, frames_numbered}
 use Rattle.account.proofs.Rising.{Ordered, ordered_none, ordered_later, ordered_go}
 use Rattle.account.proofs.Booking.{Booked, booked_none, booked_more, booked_go, booked_lose, booked_miss, booked_none_lost, booked_empty}
 
@@ -180,6 +180,12 @@ stored_held s o c n m (f ∷ fs) whole inside room at =
     ∙ ap (λ x. held o (c + 1) (set m x f) ++ fs) at
     ∙ ap (λ xs. xs ++ fs) (held_set s o c m f whole inside (omega arith))
     ∙ append_assoc (held o c m) (f ∷ []) fs
+
+-- and leave those less than a ring before them as they are
+pub stored_apart : (s n x : ℕ) (m fs : List Frame) → 0 < s → n < x → x + length fs ≤ n + s → get_or (stored s m x fs) (n % s) silence ≡ get_or m (n % s) silence
+stored_apart s n x m [] sized before room = refl
+stored_apart s n x m (f ∷ fs) sized before room =
+    stored_apart s n (suc x) (set m (x % s) f) fs sized (omega arith) (omega arith) ∙ get_or-set_other m (x % s) (n % s) f silence (places_differ s n x sized before (omega arith))
 
 pub length_stored : (s : ℕ) (m : List Frame) (n : ℕ) (fs : List Frame) → length (stored s m n fs) ≡ length m
 length_stored s m n [] = refl

@@ -45,11 +45,14 @@ use Rattle.account.specs.PlaybackHistory.{Situation, RestSame, Step, Past, frame
 use Rattle.account.specs.Promise.{PlaybackAccount}
 use Rattle.account.proofs.Booking.{booked_once, booked_no_other}
 use Rattle.account.proofs.Framing.{Framed, framed_none, framed_write, framed_note, framed_taken_in, framed_go, framed_lose, framed_empty}
+use Rattle.account.proofs.Histories.{holds_along, at_each_moment}
 use Rattle.account.proofs.LedgerSteps.{LedgerKept, ledger_noted, entries_noted, entries_taken, ledger_taken, further_are}
 use Rattle.account.proofs.Lent.{none_out, held_is, Lent, lent_none, lent_grant, lent_back, lent_commit, lent_void, lent_once, Area, further, area_places}
+use Rattle.account.proofs.PlaybackMeaning.{Means, means_step, no_wrong_state}
 use Rattle.account.proofs.Refusals.{cases_if, refused_or_obeyed}
 use Rattle.account.proofs.Stretches.{place_of, times_within, take_numbers, places_differ, map_get_or_append, frames_numbered, length_numbers}
 use Rattle.account.proofs.Stretching.{rise_later, rise_more, rise_none}
+use Rattle.account.proofs.Ticking.{tick_leaves_memory}
 
 pub made : {S : Type 0} {u : Situation S} {b : Book} {sink : S} {m : List Frame} {ledger : List Entry} → u.stream ≡ b → u.sink ≡ sink → u.memory ≡ m → u.ledger ≡ ledger → u ≡ record { stream = b; sink = sink; memory = m; ledger = ledger }
 made a b c d = rw (sym a, sym b, sym c, sym d)
@@ -358,6 +361,11 @@ module _ {S : Type 0} (p : SinkPoints S) (law : (s : S) → Lawful (p.makes s)) 
   kept_always up [] end led = rw led (kept_start up)
   kept_always up (m ∷ past) end led = rw led.2 (kept_step past m.before (kept_always up past m.before led.0) m.call m.answer m.after led.1)
 
+  means_always : FreshStart → (h : Past S) (end : Situation S) → Leads (Step p) start h end → Means end.stream
+  means_always up =
+      holds_along (Step p) (λ t. Means t.stream) (rw up.fresh_stream (refl, refl))
+      (λ past m led step means. means_step p m.before m.after m.answer (kept_always up past m.before led).framed.low means m.call step)
+
   pub playback_accounted : (h : Past S) (end : Situation S) → FreshStart → Leads (Step p) start h end → PlaybackAccount p start h end
   playback_accounted h end up led =
       let kept = kept_always up h end led in
@@ -376,7 +384,10 @@ module _ {S : Type 0} (p : SinkPoints S) (law : (s : S) → Lawful (p.makes s)) 
             let there = times_within n _ _ (rw f.waits_are at some) in
             let at = area_places _ _ _ _ x kept.area_out inside in
             places_differ g.buffer n at.0 f.sized (omega (arith, f.low)) (omega (arith, f.low)) (same ∙ sym at.3);
+        ticks_leave_the_memory = at_each_moment (Step p) _ (λ past m before step. tick_leaves_memory p m.before m.after m.answer m.call step) h end led;
         lost_stretches_rise = rw told kept.rising;
+        states_mean_what_they_say = rw waits_count (means_always up h end led);
+        no_lease_meets_a_wrong_state = at_each_moment (Step p) _ (λ past m before step. no_wrong_state p m.before m.after m.answer (means_always up past m.before before) m.call step) h end led;
         counts_are_the_words = (sym f.count, sym waits_count);
         avail_is_what_is_free =
             rw (g.doubled, waits_count) (playback_free g.buffer end.stream.oldest end.stream.committed g.lawful.0 f.low (omega (arith, f.fits)));

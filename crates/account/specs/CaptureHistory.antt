@@ -1,6 +1,8 @@
 -- Histories of a capture stream, and what they tell.
 --   Situation          a stream with its source, its two memories and the host's memory that copies go into
 --   Step               each call by its rule; a call that is given memory of another length is refused by 3
+--   kind_of c          what kind of call it is
+--   frame_at t n       the frame in the frame memory at the place of number n
 --   given_up h         the frames that the source gave up, in order: at each tick those that left its list
 --   unread h           the numbers of the frames that wait to be read, the oldest first: of those that a tick got, the first that
 --                      it stored
@@ -10,16 +12,18 @@
 --   entries h end      the entries that takes have answered and would answer
 --   deeds h            what was done with leases, the newest first
 -- Assumes nothing.
-use Rattle.std.specs.Prelude.{◌≡◌, ℕ, ◌-◌, List, [], ◌∷◌, ◌++◌, length, take, drop}
+use Rattle.std.specs.Prelude.{◌≡◌, ℕ, ◌-◌, ◌%◌, List, [], ◌∷◌, ◌++◌, length, take, drop, slice_index_or}
 use Rattle.std.proofs.Math.Seq.{paste}
 use Rattle.codes.specs.declared.refusal.Refusal.TheVariants as refusal
 use Rattle.frames.specs.declared.frame.Frame.{Frame}
+use Rattle.frames.specs.Samples.{silence}
 use Rattle.sources.specs.Source.{SourcePoints}
 use Rattle.calls.specs.declared.answer.Answer.{Answer}
 use Rattle.calls.specs.declared.call.Given.TheVariants.{Own, Another}
 use Rattle.calls.specs.declared.call.CaptureCall.{CaptureCall}
 use Rattle.calls.specs.declared.call.CaptureCall.TheVariants.{Begin, Copy, Commit, Start, Tick, Pause, Resume, Drain, Drop, Prepare, Take}
 use Rattle.calls.specs.declared.entry.Entry.{Entry}
+use Rattle.calls.specs.declared.verdict.CallKind.{CallKind}
 use Rattle.calls.specs.declared.verdict.CallKind.TheVariants as kind
 use Rattle.account.specs.Areas.{area}
 use Rattle.account.specs.Capture.{Begins, Copies, Commits, Turns, Drains, Drops, Prepares, Takes, Ticks}
@@ -37,6 +41,9 @@ pub record Situation (R : Type 0) : Type 0 where
   pub memory : List Frame
   pub ledger : List Entry
   pub host : List Frame
+
+abbrev pub frame_at : {R : Type 0} → Situation R → ℕ → Frame
+frame_at t n = slice_index_or t.memory (n % t.stream.geometry.buffer) silence
 
 -- only the stream's numbers may have changed
 pub record RestSame {R : Type 0} (t u : Situation R) : Type 0 where
@@ -74,6 +81,19 @@ module _ {R : Type 0} (p : SourcePoints R) where
   Step t (Prepare Another) r u = Refuses refusal.Memory r t u
   Step t (Take Own) r u = Takes t.stream t.ledger r u.stream × RestSame t u
   Step t (Take Another) r u = Refuses refusal.Memory r t u
+
+abbrev pub kind_of : CaptureCall → CallKind
+kind_of (Begin wanted) = kind.Begin
+kind_of (Copy g l j x n) = kind.Access
+kind_of (Commit l n) = kind.Commit
+kind_of Start = kind.Start
+kind_of (Tick g e k) = kind.Tick
+kind_of Pause = kind.Pause
+kind_of Resume = kind.Resume
+kind_of Drain = kind.Drain
+kind_of (Drop g) = kind.Drop
+kind_of (Prepare g) = kind.Prepare
+kind_of (Take g) = kind.Take
 
 abbrev pub Past : Type 0 → Type 0
 Past R = History (Situation R) CaptureCall

@@ -2,6 +2,7 @@
 --   Moment             a call with all that it was given, as it met a situation, its answer, and the situation after
 --   History            what happened since set-up, the newest first
 --   Leads start h end  the history leads from one situation to another, each call by its rule
+--   EachMoment P h    P holds of each moment of a history, and of what was past at it
 --   Ran                these calls, tried after a past, were given these answers
 -- Assumes nothing.
 use Rattle.std.specs.Prelude.{◌≡◌, List, [], ◌∷◌, ◌++◌, map, reverse}
@@ -15,6 +16,10 @@ pub record Moment (T C : Type 0) : Type 0 where
 
 abbrev pub History : Type 0 → Type 0 → Type 0
 History T C = List (Moment T C)
+
+abbrev pub EachMoment : {T C : Type 0} → (History T C → Moment T C → Type 0) → History T C → Type 0
+EachMoment P [] = Unit {0}
+EachMoment P (m ∷ past) = P past m × EachMoment P past
 
 module _ {T C : Type 0} (Step : T → C → Answer → T → Type 0) where
   abbrev pub Leads : T → History T C → T → Type 0

@@ -12,6 +12,7 @@ pub mod Numbers
 pub mod Happenings
 pub mod Entries
 pub mod Leases
+pub mod Meanings
 pub mod PlaybackHistory
 pub mod CaptureHistory
 pub mod Promise

@@ -1,6 +1,7 @@
 -- Histories of a playback stream, and what they tell.
 --   Situation        a stream with its sink and its two memories
 --   Step             each call by its rule; a call that is given memory of another length is refused by 3
+--   kind_of c        what kind of call it is
 --   frames_committed h   the frames committed, in order: at each obeyed commit of n the first n frames of the area as it then stood
 --   waiting h        the numbers of the frames that wait, the oldest first
 --   played h         the numbers of the frames played, in order: at each tick the first of those waiting
@@ -17,6 +18,7 @@ use Rattle.calls.specs.declared.call.Given.TheVariants.{Own, Another}
 use Rattle.calls.specs.declared.call.PlaybackCall.{PlaybackCall}
 use Rattle.calls.specs.declared.call.PlaybackCall.TheVariants.{Begin, Put, Mix, Commit, Start, Tick, Pause, Resume, Drain, Drop, Prepare, Take}
 use Rattle.calls.specs.declared.entry.Entry.{Entry}
+use Rattle.calls.specs.declared.verdict.CallKind.{CallKind}
 use Rattle.calls.specs.declared.verdict.CallKind.TheVariants as kind
 use Rattle.account.specs.Areas.{area}
 use Rattle.account.specs.Playback.{Begins, Puts, Mixes, Commits, Turns, Drains, Drops, Prepares, Takes, Ticks}
@@ -61,6 +63,20 @@ module _ {S : Type 0} (p : SinkPoints S) where
   Step t (Prepare Another) r u = Refuses refusal.Memory r t u
   Step t (Take Own) r u = Takes t.stream t.ledger r u.stream × RestSame t u
   Step t (Take Another) r u = Refuses refusal.Memory r t u
+
+abbrev pub kind_of : PlaybackCall → CallKind
+kind_of (Begin wanted) = kind.Begin
+kind_of (Put g l j fs) = kind.Access
+kind_of (Mix g l j fs) = kind.Access
+kind_of (Commit l n) = kind.Commit
+kind_of Start = kind.Start
+kind_of (Tick g e k) = kind.Tick
+kind_of Pause = kind.Pause
+kind_of Resume = kind.Resume
+kind_of Drain = kind.Drain
+kind_of (Drop g) = kind.Drop
+kind_of (Prepare g) = kind.Prepare
+kind_of (Take g) = kind.Take
 
 abbrev pub Past : Type 0 → Type 0
 Past S = History (Situation S) PlaybackCall

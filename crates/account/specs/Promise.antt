@@ -1,28 +1,39 @@
 -- The promise: after any calls, every frame and every lease is accounted for.
---   playback-promise, capture-promise   the account of one stream
+--   InArea x out    place x lies in the area of the lease that is out, if one is
+--   PlaybackAccount, CaptureAccount   the account of one stream: from its start, by a history, at its end
 --   Table            both streams, each with all that its calls are given
 --   Step             a call goes by its stream's rule, and leaves all of the other stream's as it was
+--   of_playback, of_capture   what of a history happened to one stream
+--   SetUp            both streams are just set up, over any sink and source, with memory of their sizes
 --   Account          both accounts
 --   GoesOn          after any past since set-up, the history goes on with these calls and these answers, and both accounts hold
+--   AlwaysAccounted   both accounts hold after every history since set-up
 -- Assumes nothing.
-use Rattle.std.specs.Prelude.{◌≡◌, ℕ, ◌+◌, ◌-◌, ◌%◌, ◌<◌, ◌≤◌, ◌≢◌, List, [], ◌∷◌, ◌++◌, map, length, Some, None, Option, slice_index_or}
+use Rattle.std.specs.Prelude.{◌≡◌, ℕ, ◌+◌, ◌-◌, ◌%◌, ◌<◌, ◌≤◌, true, ◌≢◌, List, [], ◌∷◌, ◌++◌, map, length, Some, None, Option, slice_index_or}
+use Rattle.codes.specs.declared.entry_kind.EntryKind.TheVariants as entry
+use Rattle.codes.specs.declared.refusal.Refusal.TheVariants as refusal
+use Rattle.codes.specs.declared.state.State.TheVariants.{Xrun}
 use Rattle.frames.specs.Samples.{silence}
 use Rattle.geometry.specs.Pointers.{pointer_of, playback_avail, capture_avail}
 use Rattle.sinks.specs.Sink.{SinkPoints}
 use Rattle.sources.specs.Source.{SourcePoints}
 use Rattle.calls.specs.declared.answer.Answer.{Answer}
+use Rattle.calls.specs.declared.answer.Answer.TheVariants.{Refused}
 use Rattle.calls.specs.declared.call.Call.{Call}
 use Rattle.calls.specs.declared.call.Call.TheVariants.{Playback, Capture}
 use Rattle.calls.specs.declared.lease_parts.LeaseParts.{LeaseParts}
+use Rattle.calls.specs.declared.verdict.CallKind.TheVariants as call
 use Rattle.account.specs.PlaybackBook as play_book
 use Rattle.account.specs.CaptureBook as capt_book
-use Rattle.account.specs.Histories.{History, Leads, Ran}
+use Rattle.account.specs.Entries.{of_kinds}
+use Rattle.account.specs.Histories.{History, EachMoment, Leads, Ran}
 use Rattle.account.specs.Leases.{EachEndsOnce, Numbered}
+use Rattle.account.specs.Meanings.{PlaybackMeans, CaptureMeans}
 use Rattle.account.specs.Numbers.{times, lies, Rises, RiseFrom}
+use Rattle.account.specs.States.{names_lease}
 use Rattle.account.specs.PlaybackHistory as play
 use Rattle.account.specs.CaptureHistory as capt
 
--- place x lies in the area that is out
 abbrev pub InArea : ℕ → Option LeaseParts → Type 0
 InArea x None = ⊥
 InArea x (Some l) = (l.place ≤ x) × (x < l.place + l.length)
@@ -35,7 +46,10 @@ pub record PlaybackAccount {S : Type 0} (p : SinkPoints S) (start : play.Situati
   pub each_lease_ends_once : EachEndsOnce (play.deeds h) end.stream.lending.out
   pub leases_are_numbered : Numbered (play.deeds h)
   pub hardware_keeps_out : (x : ℕ) → InArea x end.stream.lending.out → (n : ℕ) → 0 < times n (play.waiting h) → n % end.stream.geometry.buffer ≢ x
+  pub ticks_leave_the_memory : EachMoment (λ past m. play.kind_of m.call ≡ call.Tick → m.after.memory ≡ m.before.memory) h
   pub lost_stretches_rise : RiseFrom 0 (play.entries h end) end.stream.oldest
+  pub states_mean_what_they_say : PlaybackMeans end.stream.state (length (play.waiting h)) end.stream.geometry.threshold end.stream.lending.out
+  pub no_lease_meets_a_wrong_state : EachMoment (λ past m. names_lease (play.kind_of m.call) ≡ true → m.answer ≢ Refused refusal.State) h
   pub counts_are_the_words : (end.stream.committed ≡ length (play.frames_committed h)) × (end.stream.committed - end.stream.oldest ≡ length (play.waiting h))
   pub avail_is_what_is_free : playback_avail end.stream.geometry.buffer end.stream.geometry.boundary (pointer_of end.stream.geometry.boundary end.stream.oldest) (pointer_of end.stream.geometry.boundary end.stream.committed) ≡ end.stream.geometry.buffer - length (play.waiting h)
 
@@ -49,7 +63,13 @@ pub record CaptureAccount {R : Type 0} (p : SourcePoints R) (start : capt.Situat
   pub each_lease_ends_once : EachEndsOnce (capt.deeds h) end.stream.lending.out
   pub leases_are_numbered : Numbered (capt.deeds h)
   pub hardware_keeps_out : (x : ℕ) → InArea x end.stream.lending.out → (n : ℕ) × (0 < times n (capt.unread p h)) × (n % end.stream.geometry.buffer ≡ x)
+  pub ticks_leave_what_is_unread : EachMoment (λ past m. capt.kind_of m.call ≡ call.Tick → (n : ℕ) → 0 < times n (capt.unread p past) → capt.frame_at m.after n ≡ capt.frame_at m.before n) h
   pub lost_stretches_are_apart : (n : ℕ) → lies n (capt.entries h end) ≤ 1
+  pub overruns_rise : RiseFrom 0 (of_kinds (entry.Overrun ∷ []) (capt.entries h end)) end.stream.given_up
+  pub thrown_away_rise : RiseFrom 0 (of_kinds (entry.Prepared ∷ entry.Dropped ∷ []) (capt.entries h end)) end.stream.oldest
+  pub unread_are_the_last_given_up_unless_in_xrun : end.stream.state ≢ Xrun → end.stream.oldest + length (capt.unread p h) ≡ length (capt.given_up p h)
+  pub states_mean_what_they_say : CaptureMeans end.stream.state (length (capt.unread p h)) end.stream.geometry.buffer end.stream.lending.out
+  pub no_lease_meets_a_wrong_state : EachMoment (λ past m. names_lease (capt.kind_of m.call) ≡ true → m.answer ≢ Refused refusal.State) h
   pub counts_are_the_words : (end.stream.given_up ≡ length (capt.given_up p h)) × (end.stream.unread ≡ length (capt.unread p h))
   pub avail_is_what_is_unread : capture_avail end.stream.geometry.boundary (pointer_of end.stream.geometry.boundary (end.stream.oldest + end.stream.unread)) (pointer_of end.stream.geometry.boundary end.stream.oldest) ≡ length (capt.unread p h)
 

@@ -6,6 +6,7 @@
 --   refusing v           the reason to refuse that a verdict may be
 --   moves v              whether frames move: a tick is never refused for its state, it moves frames or does nothing
 --   entered v s          the state after it
+--   names_lease k        whether calls of this kind name a lease: put, mix, copy and commit do
 -- Assumes nothing.
 use Rattle.std.specs.Prelude.{ℕ, Bool, true, false, cond, ◌||◌, List, [], ◌∷◌, ◌==◌}
 use Rattle.codes.specs.declared.refusal.Refusal.{Refusal}
@@ -82,3 +83,16 @@ entered Stay s = s
 entered Move s = s
 entered (Enter t) s = t
 entered (Refuse why) s = s
+
+abbrev pub names_lease : CallKind → Bool
+names_lease Begin = false
+names_lease Access = true
+names_lease Commit = true
+names_lease Start = false
+names_lease Tick = false
+names_lease Pause = false
+names_lease Resume = false
+names_lease Drain = false
+names_lease Drop = false
+names_lease Prepare = false
+names_lease Take = false

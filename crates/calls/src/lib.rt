@@ -4,6 +4,9 @@
 
 pub mod answer;
 pub mod call;
+pub mod elsewhere;
 pub mod entry;
+pub mod lease;
 pub mod lease_parts;
+pub mod telling;
 pub mod verdict;

@@ -1,0 +1,2 @@
+pub mod CaptureBook
+pub mod Copies
