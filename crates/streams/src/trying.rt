@@ -1,5 +1,6 @@
 // Any calls of a playback stream and a capture stream, and what holds after them.
-ghost use Rattle.std.specs.Prelude.{◌≡◌, min, length, take};
+ghost use Rattle.std.specs.Prelude.{◌≡◌, min, [], length, take, drop};
+ghost use Rattle.account.specs.Histories.{Ran};
 ghost use Rattle.account.specs.Promise.{Step, GoesOn};
 ghost use Rattle.calls.specs.Told.{handed};
 ghost use Rattle.streams.specs.Tables.{table_of};
@@ -120,6 +121,8 @@ pub fn try_calls<S: Sink, R: Source>(
 ) -> Tried
     ensures tried { result.count ≡ min (length calls.now) (length answers.old) }
     ensures account { GoesOn S.Sink.shows R.Source.shows (table_of playback.old sink.old memory.old ledger.old capture.old source.old capture_memory.old capture_ledger.old host.old) (take result.count calls.now) (take result.count answers.new) (table_of playback.new sink.new memory.new ledger.new capture.new source.new capture_memory.new capture_ledger.new host.new) }
+    ensures ran { Ran (Step S.Sink.shows R.Source.shows) (table_of playback.old sink.old memory.old ledger.old capture.old source.old capture_memory.old capture_ledger.old host.old) [] (take result.count calls.now) (take result.count answers.new) (table_of playback.new sink.new memory.new ledger.new capture.new source.new capture_memory.new capture_ledger.new host.new) }
+    ensures rest { drop result.count answers.new ≡ drop result.count answers.old }
     ensures leases { (handed result.hands.playback ≡ playback.new.lending.out) × (handed result.hands.capture ≡ capture.new.lending.out) }
     ensures spared { (spare.new ≡ spare.old) × (spare_ledger.new ≡ spare_ledger.old) }
 {
