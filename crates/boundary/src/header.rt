@@ -128,7 +128,7 @@ fn check_marks(marks: &[u32], count: u8) -> Result<Marks, Refusal> {
     Marks::check(&marks[..count])
 }
 
-// Checks every number, in the order in which they stand.
+// Checks every number: both geometries, then the taps, the factor and the marks.
 pub fn check_header(header: Header) -> Result<Setup, Refusal> {
     let playback = check_geometry(header.playback)?;
     let capture = check_geometry(header.capture)?;
