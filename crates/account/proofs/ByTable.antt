@@ -32,14 +32,6 @@ module _ {T : Type 0} (w : ℕ) (wrong : Bool) (r : Answer) (t ended u : T) (oth
   playback_by_table Draining went = went
   playback_by_table Paused went = went
 
-  pub playback_by_states : (s : State) → ByVerdict s (playback_decides s call.Commit w) wrong r t ended u others P → ByStates s (Setup ∷ Draining ∷ []) wrong r t ended u others P
-  playback_by_states Setup went = went
-  playback_by_states Prepared went = went
-  playback_by_states Running went = went
-  playback_by_states Xrun went = went
-  playback_by_states Draining went = went
-  playback_by_states Paused went = went
-
   pub capture_by_table : (s : State) → ByStates s (Setup ∷ []) wrong r t ended u others P → ByVerdict s (capture_decides s call.Commit w) wrong r t ended u others P
   capture_by_table Setup went = went
   capture_by_table Prepared went = went
@@ -47,11 +39,3 @@ module _ {T : Type 0} (w : ℕ) (wrong : Bool) (r : Answer) (t ended u : T) (oth
   capture_by_table Xrun went = went
   capture_by_table Draining went = went
   capture_by_table Paused went = went
-
-  pub capture_by_states : (s : State) → ByVerdict s (capture_decides s call.Commit w) wrong r t ended u others P → ByStates s (Setup ∷ []) wrong r t ended u others P
-  capture_by_states Setup went = went
-  capture_by_states Prepared went = went
-  capture_by_states Running went = went
-  capture_by_states Xrun went = went
-  capture_by_states Draining went = went
-  capture_by_states Paused went = went

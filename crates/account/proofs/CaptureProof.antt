@@ -507,7 +507,8 @@ module _ {R : Type 0} (p : SourcePoints R) (start : Situation R) where
         lost_stretches_are_apart = λ n. elim (cases_lt n (length fs)) [ inl l ↦ omega (arith, once n l) | inr far ↦ omega (arith, no_other n far) ];
         overruns_rise = rw told held_so.rising.missed;
         thrown_away_rise = rw told held_so.rising.thrown;
-        unread_are_the_last_given_up_unless_in_xrun = λ elsewhere. rw (unread_count, f.count) (held_so.gapless (not_in_xrun end.stream.state elsewhere));
+        unread_are_the_last_given_up_unless_in_xrun = λ elsewhere.
+            (f.waits_are ∙ ap (λ (k : ℕ). numbers end.stream.oldest k) (all ∙ sym unread_count), rw (unread_count, f.count) (held_so.gapless (not_in_xrun end.stream.state elsewhere)));
         states_mean_what_they_say = rw unread_count (means_always up h end led);
         no_lease_meets_a_wrong_state = at_each_moment (Step p) _ (λ past m before step. no_wrong_state p m.before m.after m.answer (means_always up past m.before before) m.call step) h end led;
         counts_are_the_words = (sym f.count, sym unread_count);

@@ -29,7 +29,7 @@ use Rattle.account.specs.Entries.{of_kinds}
 use Rattle.account.specs.Histories.{History, EachMoment, Leads, Ran}
 use Rattle.account.specs.Leases.{EachEndsOnce, Numbered}
 use Rattle.account.specs.Meanings.{PlaybackMeans, CaptureMeans}
-use Rattle.account.specs.Numbers.{times, lies, Rises, RiseFrom}
+use Rattle.account.specs.Numbers.{numbers, times, lies, Rises, RiseFrom}
 use Rattle.account.specs.States.{names_lease}
 use Rattle.account.specs.PlaybackHistory as play
 use Rattle.account.specs.CaptureHistory as capt
@@ -67,7 +67,7 @@ pub record CaptureAccount {R : Type 0} (p : SourcePoints R) (start : capt.Situat
   pub lost_stretches_are_apart : (n : ℕ) → lies n (capt.entries h end) ≤ 1
   pub overruns_rise : RiseFrom 0 (of_kinds (entry.Overrun ∷ []) (capt.entries h end)) end.stream.given_up
   pub thrown_away_rise : RiseFrom 0 (of_kinds (entry.Prepared ∷ entry.Dropped ∷ []) (capt.entries h end)) end.stream.oldest
-  pub unread_are_the_last_given_up_unless_in_xrun : end.stream.state ≢ Xrun → end.stream.oldest + length (capt.unread p h) ≡ length (capt.given_up p h)
+  pub unread_are_the_last_given_up_unless_in_xrun : end.stream.state ≢ Xrun → (capt.unread p h ≡ numbers end.stream.oldest (length (capt.unread p h))) × (end.stream.oldest + length (capt.unread p h) ≡ length (capt.given_up p h))
   pub states_mean_what_they_say : CaptureMeans end.stream.state (length (capt.unread p h)) end.stream.geometry.buffer end.stream.lending.out
   pub no_lease_meets_a_wrong_state : EachMoment (λ past m. names_lease (capt.kind_of m.call) ≡ true → m.answer ≢ Refused refusal.State) h
   pub counts_are_the_words : (end.stream.given_up ≡ length (capt.given_up p h)) × (end.stream.unread ≡ length (capt.unread p h))
