@@ -1,10 +1,9 @@
 // Whole recordings through a stream.
 use crate::reading::Reader;
-use crate::running::SILENCE;
-use crate::writing::put_frame;
+use crate::running::{NO_ENTRY, SILENCE};
+use crate::writing::put_frames;
 use calls::entry::Entry;
 use capture::capture::Capture;
-use codes::entry_kind::EntryKind;
 use codes::refusal::Refusal;
 use frames::factor::Factor;
 use frames::frame::Frame;
@@ -18,15 +17,6 @@ use sinks::keep::Keep;
 use sinks::sink::Sink;
 use sources::byte_source::ByteSource;
 use std::alloc::{AllocError, Global};
-
-const NO_ENTRY: Entry = Entry {
-    kind: EntryKind::Underrun,
-    first: 0,
-    lost: 0,
-    missed: 0,
-    cause: 0,
-    depth: 0,
-};
 
 // Gain at the top, then the filter, then keep, then the tape.
 type Pile = Gain<Fir<Keep<ByteTape>>>;
@@ -158,15 +148,6 @@ fn read(stream: &mut Capture, memory: &[Frame], scratch: &mut [Frame]) -> usize 
     }
 }
 
-fn put_all(out: &mut [u8], at: usize, frames: &[Frame]) -> usize {
-    let mut place = at;
-    for frame in frames {
-        let _ = put_frame(out, place, *frame);
-        place = place.saturating_add(4);
-    }
-    place
-}
-
 // Captures and reads by turns, always leaving a place free, until nothing comes any more; tells how many frames were read.
 fn read_all(
     stream: &mut Capture,
@@ -189,7 +170,7 @@ fn read_all(
         }
         for _ in 0..2 {
             let n = read(stream, memory, scratch).min(scratch.len());
-            at = put_all(out, at, &scratch[..n]);
+            at = put_frames(out, at, &scratch[..n]);
             got = got.saturating_add(n);
         }
     }

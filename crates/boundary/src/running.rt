@@ -30,7 +30,7 @@ pub const NO_ROOM: u32 = 101;
 
 pub const SILENCE: Frame = Frame { left: 0, right: 0 };
 
-const NO_ENTRY: Entry = Entry {
+pub const NO_ENTRY: Entry = Entry {
     kind: EntryKind::Underrun,
     first: 0,
     lost: 0,

@@ -3,22 +3,9 @@ use crate::header::{check_header, read_header};
 use crate::piles::run_shape;
 use crate::reading::Reader;
 use crate::running::{NO_ROOM, NOT_DECODED, Ran, SILENCE};
-use crate::writing::{has_room, put_frame, put_number};
+use crate::writing::{has_room, put_frames, put_number};
 use frames::frame::Frame;
 use std::alloc::{AllocError, Global};
-
-// Writes the frames one after the other, where they all have room.
-fn put_frames(out: &mut [u8], at: usize, frames: &[Frame]) -> Option<usize> {
-    if !has_room(out, at, frames.len().saturating_mul(4)) {
-        return None;
-    }
-    let mut place = at;
-    for frame in frames {
-        let _ = put_frame(out, place, *frame);
-        place = place.saturating_add(4);
-    }
-    Some(place)
-}
 
 // How many frames there are; a tape here has at most 65,536.
 fn count_of(frames: &[Frame]) -> u32 {
@@ -39,11 +26,8 @@ fn finish(out: &mut [u8], ran: Ran, heard: &[Frame], host: &[Frame]) -> usize {
         .saturating_add(4);
     if has_room(out, at, all) {
         let _ = put_number(out, at, count_of(heard));
-        if let Some(place) = put_frames(out, at.saturating_add(4), heard) {
-            if let Some(end) = put_frames(out, place, host) {
-                at = end;
-            }
-        }
+        let place = put_frames(out, at.saturating_add(4), heard);
+        at = put_frames(out, place, host);
     } else {
         status = NO_ROOM;
     }
