@@ -1,11 +1,11 @@
 -- The states that allow a call: what holds in each of them holds where the call was obeyed. Assumes nothing.
-use Rattle.std.proofs.Common.{◌≡◌, ℕ, true, false, cond, eqb, List, [], ◌∷◌, sym, refl, ap, ◌∙◌, subst, inl, inr}
+use Rattle.std.proofs.Common.{◌≡◌, ℕ, true, false, cond, eqb, List, [], ◌∷◌, sym, refl, ap, ◌∙◌, subst, inl, inr, Ok}
 use Rattle.std.proofs.lemmas.Bool.{both_ways, cases_Bool, or_cases, eqb-true}
 use Rattle.codes.specs.declared.state.State.{State}
 use Rattle.codes.specs.declared.state.State.TheVariants.{Setup, Prepared, Running, Xrun, Draining, Paused}
 use Rattle.codes.specs.States.{state_number}
-use Rattle.calls.specs.declared.verdict.Verdict.{Verdict}
-use Rattle.calls.specs.declared.verdict.Verdict.TheVariants.{Stay, Move}
+use Rattle.calls.specs.Answers.{Verdict}
+use Rattle.calls.specs.declared.verdict.Effect.TheVariants.{Stay, Move}
 use Rattle.account.specs.States.{among, in_states, wrong_state, is_refusal, moves}
 
 -- the state of a number
@@ -45,5 +45,5 @@ obeyed_in Q states v each s e =
     ]
 
 -- and so did a tick that moved frames
-pub moving_in : (Q : State → Type 0) (states : List State) → EachOf Q states → (s : State) → moves (cond (among s states) Move Stay) ≡ true → Q s
+pub moving_in : (Q : State → Type 0) (states : List State) → EachOf Q states → (s : State) → moves (cond (among s states) (Ok Move) (Ok Stay)) ≡ true → Q s
 moving_in Q states each s e = elim (cases_Bool (among s states)) [ inl there ↦ among_these Q states each s there | inr not_there ↦ absurd (both_ways false refl (rw not_there at e)) ]

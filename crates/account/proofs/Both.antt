@@ -3,7 +3,7 @@ use Rattle.std.proofs.Common.{[], ◌∷◌, refl, ap}
 use Rattle.sinks.specs.Making.{Lawful}
 use Rattle.sinks.specs.Sink.{SinkPoints}
 use Rattle.sources.specs.Source.{SourcePoints}
-use Rattle.calls.specs.declared.answer.Answer.{Answer}
+use Rattle.calls.specs.Answers.{Answer}
 use Rattle.calls.specs.declared.call.Call.{Call}
 use Rattle.calls.specs.declared.call.Call.TheVariants.{Playback, Capture}
 use Rattle.account.specs.Histories.{Leads}

@@ -3,9 +3,9 @@ use Rattle.std.proofs.Common.{ℕ, Bool, not, ◌&&◌, List, [], ◌∷◌}
 use Rattle.codes.specs.declared.refusal.Refusal.TheVariants as refusal
 use Rattle.codes.specs.declared.state.State.{State}
 use Rattle.codes.specs.declared.state.State.TheVariants.{Setup, Prepared, Running, Xrun, Draining, Paused}
-use Rattle.calls.specs.declared.answer.Answer.{Answer}
+use Rattle.calls.specs.Answers.{Answer}
 use Rattle.calls.specs.declared.verdict.CallKind.TheVariants as call
-use Rattle.calls.specs.declared.verdict.Verdict.{Verdict}
+use Rattle.calls.specs.Answers.{Verdict}
 use Rattle.account.specs.Rules.{Reason, ◌⇒◌, Unless}
 use Rattle.account.specs.States.{among, playback_decides, capture_decides, is_refusal, why_of, refusing}
 

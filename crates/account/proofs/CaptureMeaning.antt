@@ -1,5 +1,5 @@
 -- Capture: each call leaves a state that means what it says, and so meets a lease in no state that refuses it by 4. Assumes nothing.
-use Rattle.std.proofs.Common.{◌≡◌, ℕ, ◌+◌, ◌-◌, ◌<◌, ◌≤◌, true, false, cond, not, ◌&&◌, eqb, ltb, ◌≢◌, List, [], ◌∷◌, length, is_some, None, Option, refl, ap, inl, inr, arith}
+use Rattle.std.proofs.Common.{◌≡◌, ℕ, ◌+◌, ◌-◌, ◌<◌, ◌≤◌, true, false, cond, not, ◌&&◌, eqb, ltb, ◌≢◌, List, [], ◌∷◌, length, is_some, None, Option, refl, ap, inl, inr, arith, Ok, Err}
 use Rattle.std.proofs.lemmas.List.{length-take}
 use Rattle.std.proofs.lemmas.Bool.{both_ways, cond_both, eqb-true, eqb-false}
 use Rattle.codes.specs.declared.entry_kind.EntryKind.{EntryKind}
@@ -9,8 +9,7 @@ use Rattle.codes.specs.declared.state.State.{State}
 use Rattle.codes.specs.declared.state.State.TheVariants.{Setup, Prepared, Running, Xrun, Draining, Paused}
 use Rattle.frames.specs.declared.frame.Frame.{Frame}
 use Rattle.sources.specs.Source.{SourcePoints}
-use Rattle.calls.specs.declared.answer.Answer.{Answer}
-use Rattle.calls.specs.declared.answer.Answer.TheVariants.{Refused}
+use Rattle.calls.specs.Answers.{Answer}
 use Rattle.calls.specs.declared.call.Given.TheVariants.{Own, Another}
 use Rattle.calls.specs.declared.call.CaptureCall.{CaptureCall}
 use Rattle.calls.specs.declared.call.CaptureCall.TheVariants.{Begin, Copy, Commit, Start, Tick, Pause, Resume, Drain, Drop, Prepare, Take}
@@ -18,7 +17,7 @@ use Rattle.calls.specs.declared.entry.Entry.{Entry}
 use Rattle.calls.specs.declared.lease_parts.LeaseParts.{LeaseParts}
 use Rattle.calls.specs.declared.verdict.CallKind.{CallKind}
 use Rattle.calls.specs.declared.verdict.CallKind.TheVariants as call
-use Rattle.calls.specs.declared.verdict.Verdict.TheVariants.{Stay, Enter}
+use Rattle.calls.specs.declared.verdict.Effect.TheVariants.{Stay, Enter}
 use Rattle.calls.specs.Lending.{holds}
 use Rattle.account.specs.Areas.{with_none}
 use Rattle.account.specs.Capture.{decides, Committed, lends, no_begin, no_access, no_emptying, no_moving, kept, Begins, Copies, Commits, Turned, Turns, Drains, Empties, Takes, Captured}
@@ -38,7 +37,7 @@ use Rattle.account.proofs.Spared.{differ, refused_otherwise, done_is_no_refusal,
 -- a lease goes out only where a frame is unread, and so where the state says nothing of it
 lent_means : (s : State) (w size : ℕ) (out out' : Option LeaseParts) → eqb w 0 ≡ false → is_refusal (capture_decides s call.Begin w) ≡ false → CaptureMeans s w size out → CaptureMeans s w size out'
 lent_means s w size out out' some =
-    obeyed_in (λ s. CaptureMeans s w size out → CaptureMeans s w size out') (Prepared ∷ Running ∷ Draining ∷ Paused ∷ []) Stay
+    obeyed_in (λ s. CaptureMeans s w size out → CaptureMeans s w size out') (Prepared ∷ Running ∷ Draining ∷ Paused ∷ []) (Ok Stay)
     (λ _. (λ m. absurd (eqb-false w 0 some m.0), (λ m. m, (λ m. m, (λ m. m, tt))))) s
 
 -- and may end in every state
@@ -56,7 +55,7 @@ finished s w = cond (among s (Draining ∷ []) && eqb w 0) Setup s
 
 committed_means : (s : State) (w size n : ℕ) (out : Option LeaseParts) → is_refusal (capture_decides s call.Commit w) ≡ false → CaptureMeans s w size out → CaptureMeans (finished s (w - n)) (w - n) size None
 committed_means s w size n out =
-    obeyed_in (λ s. CaptureMeans s w size out → CaptureMeans (finished s (w - n)) (w - n) size None) (Prepared ∷ Running ∷ Draining ∷ Paused ∷ []) Stay
+    obeyed_in (λ s. CaptureMeans s w size out → CaptureMeans (finished s (w - n)) (w - n) size None) (Prepared ∷ Running ∷ Draining ∷ Paused ∷ []) (Ok Stay)
     (λ _. (
       λ m. (omega (arith, m.0), refl),
       (
@@ -74,20 +73,20 @@ TurnsRightly k out = (s : State) (w size : ℕ) → 0 < size → is_refusal (cap
 
 start_means : (out : Option LeaseParts) → TurnsRightly call.Start out
 start_means out s w size sized =
-    obeyed_in (λ s. CaptureMeans s w size out → CaptureMeans (entered (capture_decides s call.Start w) s) w size out) (Prepared ∷ []) (Enter Running) (λ _. (λ m. omega (arith, m.0), tt)) s
+    obeyed_in (λ s. CaptureMeans s w size out → CaptureMeans (entered (capture_decides s call.Start w) s) w size out) (Prepared ∷ []) (Ok (Enter Running)) (λ _. (λ m. omega (arith, m.0), tt)) s
 
 pause_means : (out : Option LeaseParts) → TurnsRightly call.Pause out
-pause_means out s w size sized = obeyed_in (λ s. CaptureMeans s w size out → CaptureMeans (entered (capture_decides s call.Pause w) s) w size out) (Running ∷ []) (Enter Paused) (λ _. (λ m. m, tt)) s
+pause_means out s w size sized = obeyed_in (λ s. CaptureMeans s w size out → CaptureMeans (entered (capture_decides s call.Pause w) s) w size out) (Running ∷ []) (Ok (Enter Paused)) (λ _. (λ m. m, tt)) s
 
 resume_means : (out : Option LeaseParts) → TurnsRightly call.Resume out
-resume_means out s w size sized = obeyed_in (λ s. CaptureMeans s w size out → CaptureMeans (entered (capture_decides s call.Resume w) s) w size out) (Paused ∷ []) (Enter Running) (λ _. (λ m. m, tt)) s
+resume_means out s w size sized = obeyed_in (λ s. CaptureMeans s w size out → CaptureMeans (entered (capture_decides s call.Resume w) s) w size out) (Paused ∷ []) (Ok (Enter Running)) (λ _. (λ m. m, tt)) s
 
 -- with no lease out, what is unread is left to read, and the stream is set up again where nothing is
 drain_means : TurnsRightly call.Drain None
 drain_means s w size sized =
     let drains : CaptureMeans (cond (eqb w 0) Setup Draining) w size None =
     cond_both (eqb w 0) Setup Draining (λ s. CaptureMeans s w size None) (λ none. (eqb-true w 0 none, refl)) (λ some. omega (arith, eqb-false w 0 some)) in
-    obeyed_in (λ s. CaptureMeans s w size None → CaptureMeans (entered (capture_decides s call.Drain w) s) w size None) (Prepared ∷ Running ∷ []) (Enter (cond (eqb w 0) Setup Draining))
+    obeyed_in (λ s. CaptureMeans s w size None → CaptureMeans (entered (capture_decides s call.Drain w) s) w size None) (Prepared ∷ Running ∷ []) (Ok (Enter (cond (eqb w 0) Setup Draining)))
     (λ _. (λ m. drains, (λ m. drains, tt))) s
 
 -- what a call that throws away all that is unread must bring about
@@ -97,12 +96,12 @@ EmptiesRightly k = (s : State) (w size : ℕ) → is_refusal (capture_decides s 
 drop_means : EmptiesRightly call.Drop
 drop_means s w size =
     let empty : CaptureMeans Setup 0 size None = (refl, refl) in
-    obeyed_in (λ s. CaptureMeans (entered (capture_decides s call.Drop w) s) 0 size None) (Prepared ∷ Running ∷ Xrun ∷ Draining ∷ Paused ∷ []) (Enter Setup) (λ _. (empty, (empty, (empty, (empty, (empty, tt)))))) s
+    obeyed_in (λ s. CaptureMeans (entered (capture_decides s call.Drop w) s) 0 size None) (Prepared ∷ Running ∷ Xrun ∷ Draining ∷ Paused ∷ []) (Ok (Enter Setup)) (λ _. (empty, (empty, (empty, (empty, (empty, tt)))))) s
 
 prepare_means : EmptiesRightly call.Prepare
 prepare_means s w size =
     let empty : CaptureMeans Prepared 0 size None = (refl, refl) in
-    obeyed_in (λ s. CaptureMeans (entered (capture_decides s call.Prepare w) s) 0 size None) (Setup ∷ Xrun ∷ []) (Enter Prepared) (λ _. (empty, (empty, tt))) s
+    obeyed_in (λ s. CaptureMeans (entered (capture_decides s call.Prepare w) s) 0 size None) (Setup ∷ Xrun ∷ []) (Ok (Enter Prepared)) (λ _. (empty, (empty, tt))) s
 
 -- a full ring is an overrun
 ticked_means : (s : State) (w size n : ℕ) (out : Option LeaseParts) → n ≤ size - w → moves (capture_decides s call.Tick w) ≡ true → CaptureMeans s w size out → CaptureMeans (cond (eqb (w + n) size) Xrun s) (w + n) size out
@@ -200,18 +199,18 @@ module _ {R : Type 0} (p : SourcePoints R) (t u : Situation R) (r : Answer) (m :
   rightly : (l : LeaseParts) → MetRightly (not (holds t.stream.lending.out l)) (decides t.stream call.Access)
   rightly l = met_rightly t.stream.state t.stream.unread _ _ l m
 
-  copies : (l : LeaseParts) (j : ℕ) (host host' : List Frame) → Copies t.stream t.memory l j host r host' → r ≢ Refused refusal.State
+  copies : (l : LeaseParts) (j : ℕ) (host host' : List Frame) → Copies t.stream t.memory l j host r host' → r ≢ Err refusal.State
   copies l j host host' went =
       spared (no_access t.stream t.memory l j (length host)) refusal.State r host host' (access_spared _ _ _ _ (rightly l)) went (λ _ done. done_is_no_refusal r refusal.State done.answer)
 
-  commits : (l : LeaseParts) (n : ℕ) → Commits t.stream l n r u.stream → r ≢ Refused refusal.State
+  commits : (l : LeaseParts) (n : ℕ) → Commits t.stream l n r u.stream → r ≢ Err refusal.State
   commits l n went =
       let b = t.stream in
       spared (not (holds b.lending.out l) ⇒ refusal.WrongLease ∷ refusing_unless (among b.state (Xrun ∷ [])) (decides b call.Commit) ∷ []) refusal.State r b u.stream (commit_spared _ _ _ (rightly l)) (by_table b u.stream r m l n went)
       (λ none further. spared (refusing (decides b call.Commit) ∷ ltb l.length n ⇒ refusal.Beyond ∷ []) refusal.State r (lends b (with_none b.lending)) u.stream (ending_spared _ _ (rightly l none.0)) further
       (λ _ done. done_is_no_refusal r refusal.State done.answer))
 
-  pub no_wrong_state : (c : CaptureCall) → Step p t c r u → names_lease (kind_of c) ≡ true → r ≢ Refused refusal.State
+  pub no_wrong_state : (c : CaptureCall) → Step p t c r u → names_lease (kind_of c) ≡ true → r ≢ Err refusal.State
   no_wrong_state (Begin wanted) step named = absurd (both_ways false refl named)
   no_wrong_state (Copy Own l j x n) step named = copies l j _ _ step.1
   no_wrong_state (Copy Another l j x n) step named = refused_otherwise r refusal.Memory refusal.State step.0 (differ refusal.Memory refusal.State refl)

@@ -1,5 +1,5 @@
 -- Capture: every frame and every lease is accounted for, after any calls since set-up. Assumes nothing.
-use Rattle.std.proofs.Common.{◌≡◌, ℕ, ◌+◌, ◌-◌, ◌%◌, ◌<◌, ◌≤◌, true, false, not, eqb, ltb, ◌≢◌, List, [], ◌∷◌, ◌++◌, map, length, get_or, take, drop, is_some, Some, None, Option, sym, refl, ap, ◌∙◌, inl, inr, mod-lt, arith}
+use Rattle.std.proofs.Common.{◌≡◌, ℕ, ◌+◌, ◌-◌, ◌%◌, ◌<◌, ◌≤◌, true, false, not, eqb, ltb, ◌≢◌, List, [], ◌∷◌, ◌++◌, map, length, get_or, take, drop, is_some, Some, None, Option, sym, refl, ap, ◌∙◌, inl, inr, mod-lt, arith, Ok, Err}
 use native.Mathlib.Nat.{mod-add-mod}
 use lib.Seq.{paste}
 use Rattle.std.proofs.lemmas.Bool.{cases_lt, cases_Bool, leb-false, ltb-false, eqb-true, eqb-false, not-false, lt-ltb, both_ways}
@@ -16,8 +16,8 @@ use Rattle.geometry.proofs.Wrapping.{captured_unread}
 use Rattle.ring.specs.Held.{held}
 use Rattle.sources.specs.Source.{SourcePoints}
 use Rattle.sources.proofs.Chains.{chains_take}
-use Rattle.calls.specs.declared.answer.Answer.{Answer}
-use Rattle.calls.specs.declared.answer.Answer.TheVariants.{Done, Granted, Ticked, Taken, Refused}
+use Rattle.calls.specs.Answers.{Answer}
+use Rattle.calls.specs.declared.answer.Outcome.TheVariants.{Done, Granted, Ticked, Taken}
 use Rattle.calls.specs.declared.call.Given.TheVariants.{Own, Another}
 use Rattle.calls.specs.declared.call.CaptureCall.{CaptureCall}
 use Rattle.calls.specs.declared.call.CaptureCall.TheVariants.{Begin, Copy, Commit, Start, Tick, Pause, Resume, Drain, Drop, Prepare, Take}
@@ -145,11 +145,11 @@ module _ {R : Type 0} (p : SourcePoints R) (start : Situation R) where
     kept_nothing c r e =
         record { framed = rw (e, same_given) held_so.framed; handed = rw e (held_so.handed ∙ at_same (handed_over p past)); copied = rw e (held_so.copied ∙ at_same (copied_numbers p past)); copied_below = rw e held_so.copied_below; flows = rw same_given held_so.flows; gapless = held_so.gapless; lent = rw e held_so.lent; area_out = held_so.area_out; ledgered = held_so.ledgered; rising = rw e held_so.rising }
 
-    kept_turned : (c : CaptureCall) (s : State) → of_capture_call c Done ≡ nothing → among t.stream.state (Xrun ∷ []) ≡ false → Kept (then c Done (with (turned t.stream s))) (with (turned t.stream s))
+    kept_turned : (c : CaptureCall) (s : State) → of_capture_call c (Ok Done) ≡ nothing → among t.stream.state (Xrun ∷ []) ≡ false → Kept (then c (Ok Done) (with (turned t.stream s))) (with (turned t.stream s))
     kept_turned c s e alive =
         record { framed = rw (e, same_given) held_so.framed; handed = rw e (held_so.handed ∙ at_same (handed_over p past)); copied = rw e (held_so.copied ∙ at_same (copied_numbers p past)); copied_below = rw e held_so.copied_below; flows = rw same_given held_so.flows; gapless = λ z. held_so.gapless alive; lent = rw e held_so.lent; area_out = held_so.area_out; ledgered = held_so.ledgered; rising = rw e held_so.rising }
 
-    kept_begin : (wanted : ℕ) → t.stream.lending.out ≡ None → let u : Situation R = with (lends t.stream (with_out t.stream.lending (next_lease t.stream wanted))) in Kept (then (Begin wanted) (Granted (next_lease t.stream wanted)) u) u
+    kept_begin : (wanted : ℕ) → t.stream.lending.out ≡ None → let u : Situation R = with (lends t.stream (with_out t.stream.lending (next_lease t.stream wanted))) in Kept (then (Begin wanted) (Ok (Granted (next_lease t.stream wanted))) u) u
     kept_begin wanted none =
         let place = mod-lt t.stream.oldest held_so.framed.sized in
         record {
@@ -165,11 +165,11 @@ module _ {R : Type 0} (p : SourcePoints R) (start : Situation R) where
           rising = held_so.rising;
         }
 
-    kept_back : (l : LeaseParts) (n : ℕ) (why : Refusal) → t.stream.lending.out ≡ Some l → ends_lease why ≡ true → let u : Situation R = with (lends t.stream (with_none t.stream.lending)) in Kept (then (Commit l n) (Refused why) u) u
+    kept_back : (l : LeaseParts) (n : ℕ) (why : Refusal) → t.stream.lending.out ≡ Some l → ends_lease why ≡ true → let u : Situation R = with (lends t.stream (with_none t.stream.lending)) in Kept (then (Commit l n) (Err why) u) u
     kept_back l n why out ends =
         record { framed = rw (ends, same_given) held_so.framed; handed = rw ends (held_so.handed ∙ at_same (handed_over p past)); copied = rw ends (held_so.copied ∙ at_same (copied_numbers p past)); copied_below = rw ends held_so.copied_below; flows = rw same_given held_so.flows; gapless = held_so.gapless; lent = rw ends (lent_back l (rw out at held_so.lent)); area_out = tt; ledgered = held_so.ledgered; rising = rw ends held_so.rising }
 
-    kept_commit : (l : LeaseParts) (n : ℕ) → t.stream.lending.out ≡ Some l → n ≤ l.length → among t.stream.state (Xrun ∷ []) ≡ false → let u : Situation R = with (read t.stream n) in Kept (then (Commit l n) Done u) u
+    kept_commit : (l : LeaseParts) (n : ℕ) → t.stream.lending.out ≡ Some l → n ≤ l.length → among t.stream.state (Xrun ∷ []) ≡ false → let u : Situation R = with (read t.stream n) in Kept (then (Commit l n) (Ok Done) u) u
     kept_commit l n out within alive =
         let f = held_so.framed in
         let at = rw out at held_so.area_out in
@@ -201,7 +201,7 @@ module _ {R : Type 0} (p : SourcePoints R) (start : Situation R) where
           rising = rising_later held_so.rising (o + n) t.stream.given_up (omega arith) (omega arith);
         }
 
-    kept_take : let u : Situation R = with (noted_as t.stream (with_taken t.stream.ledger)) in Kept (then (Take Own) (Taken (oldest_of t.stream.ledger t.ledger)) u) u
+    kept_take : let u : Situation R = with (noted_as t.stream (with_taken t.stream.ledger)) in Kept (then (Take Own) (Ok (Taken (oldest_of t.stream.ledger t.ledger))) u) u
     kept_take =
         let n = t.stream.ledger in
         let es = t.ledger in
@@ -210,7 +210,7 @@ module _ {R : Type 0} (p : SourcePoints R) (start : Situation R) where
         record { framed = rw (same, same_given) held_so.framed; handed = held_so.handed ∙ at_same (handed_over p past); copied = held_so.copied ∙ at_same (copied_numbers p past); copied_below = held_so.copied_below; flows = rw same_given held_so.flows; gapless = held_so.gapless; lent = held_so.lent; area_out = held_so.area_out; ledgered = ledger_taken held_so.ledgered; rising = rw same held_so.rising }
 
     kept_copy : (l : LeaseParts) (j x n : ℕ) (host' : List Frame) → t.stream.lending.out ≡ Some l → j + length (area t.host x n) ≤ l.length → area host' x n ≡ area t.memory (l.place + j) (length (area t.host x n))
-        → let u : Situation R = record { stream = t.stream; source = t.source; memory = t.memory; ledger = t.ledger; host = host' } in Kept (then (Copy Own l j x n) Done u) u
+        → let u : Situation R = record { stream = t.stream; source = t.source; memory = t.memory; ledger = t.ledger; host = host' } in Kept (then (Copy Own l j x n) (Ok Done) u) u
     kept_copy l j x n host' out within same =
         let f = held_so.framed in
         let at = rw out at held_so.area_out in
@@ -249,9 +249,9 @@ module _ {R : Type 0} (p : SourcePoints R) (start : Situation R) where
         ap (λ xs. answered past ++ xs) (entries_noted held_so.ledgered due space) ∙ sym (append_assoc (answered past) (entries_of t.stream.ledger t.ledger) (entry_list due))
 
     -- all that is unread is thrown away, and lies in an entry
-    kept_emptied : (k : EntryKind) (c : CaptureCall) (s : State) → Throws k → of_capture_call c Done ≡ was_emptied
+    kept_emptied : (k : EntryKind) (c : CaptureCall) (s : State) → Throws k → of_capture_call c (Ok Done) ≡ was_emptied
         → (ltb 0 t.stream.unread ≡ true → t.stream.ledger.count < t.stream.ledger.size)
-        → let u : Situation R = record { stream = emptied t.stream s (loss k t.stream); source = t.source; memory = t.memory; ledger = noted t.stream.ledger t.ledger (loss k t.stream); host = t.host } in Kept (then c Done u) u
+        → let u : Situation R = record { stream = emptied t.stream s (loss k t.stream); source = t.source; memory = t.memory; ledger = noted t.stream.ledger t.ledger (loss k t.stream); host = t.host } in Kept (then c (Ok Done) u) u
     kept_emptied k c s throws e has =
         let b = t.stream in
         let f = held_so.framed in
@@ -359,18 +359,18 @@ module _ {R : Type 0} (p : SourcePoints R) (start : Situation R) where
               }
         ])
 
-    kept_still : (k : ℕ) (s : State) → Kept (then (Tick Own Own k) (Ticked (record { frames = 0; state = s; periods = 0 })) t) t
+    kept_still : (k : ℕ) (s : State) → Kept (then (Tick Own Own k) (Ok (Ticked (record { frames = 0; state = s; periods = 0 }))) t) t
     kept_still k s =
         record { framed = rw (append-nil (unread p past), same_given) held_so.framed; handed = held_so.handed ∙ at_same (handed_over p past); copied = held_so.copied ∙ at_same (copied_numbers p past); copied_below = held_so.copied_below; flows = rw same_given held_so.flows; gapless = held_so.gapless; lent = held_so.lent; area_out = held_so.area_out; ledgered = held_so.ledgered; rising = held_so.rising }
 
-    kept_another : (c : CaptureCall) (r : Answer) (u : Situation R) → of_capture_call c (Refused refusal.Memory) ≡ nothing → Refuses refusal.Memory r t u → Kept (then c r u) u
-    kept_another c r u e step = rw (step.0, step.1) (kept_nothing c (Refused refusal.Memory) e)
+    kept_another : (c : CaptureCall) (r : Answer) (u : Situation R) → of_capture_call c (Err refusal.Memory) ≡ nothing → Refuses refusal.Memory r t u → Kept (then c r u) u
+    kept_another c r u e step = rw (step.0, step.1) (kept_nothing c (Err refusal.Memory) e)
 
     -- a refused call left all as it was
-    kept_refused : (c : CaptureCall) (why : Refusal) (r : Answer) (u : Situation R) → of_capture_call c (Refused why) ≡ nothing → r ≡ Refused why → u.stream ≡ t.stream → RestSame t u → Kept (then c r u) u
-    kept_refused c why r u e told same rest = rw (told, made same rest.source_same rest.memory_same rest.ledger_same rest.host_same) (kept_nothing c (Refused why) e)
+    kept_refused : (c : CaptureCall) (why : Refusal) (r : Answer) (u : Situation R) → of_capture_call c (Err why) ≡ nothing → r ≡ Err why → u.stream ≡ t.stream → RestSame t u → Kept (then c r u) u
+    kept_refused c why r u e told same rest = rw (told, made same rest.source_same rest.memory_same rest.ledger_same rest.host_same) (kept_nothing c (Err why) e)
 
-    kept_turns : (c : CaptureCall) (k : CallKind) (r : Answer) (u : Situation R) → ((why : Refusal) → of_capture_call c (Refused why) ≡ nothing) → of_capture_call c Done ≡ nothing → is_refusal (capture_decides Xrun k t.stream.unread) ≡ true
+    kept_turns : (c : CaptureCall) (k : CallKind) (r : Answer) (u : Situation R) → ((why : Refusal) → of_capture_call c (Err why) ≡ nothing) → of_capture_call c (Ok Done) ≡ nothing → is_refusal (capture_decides Xrun k t.stream.unread) ≡ true
         → Unless (refusing (decides t.stream k) ∷ []) r t.stream u.stream (Turned t.stream k r u.stream) → RestSame t u → Kept (then c r u) u
     kept_turns c k r u e d not-xrun step rest =
         elim (refused_or_obeyed (refusing (decides t.stream k) ∷ []) step) [
@@ -378,12 +378,12 @@ module _ {R : Type 0} (p : SourcePoints R) (start : Situation R) where
           | inr go ↦ rw (go.1.answer, made go.1.stream rest.source_same rest.memory_same rest.ledger_same rest.host_same) (kept_turned c _ d (not_from_xrun k t.stream.unread not-xrun t.stream.state go.0.0))
         ]
 
-    kept_empties : (k : EntryKind) (c : CaptureCall) (kind : CallKind) (r : Answer) (u : Situation R) → Throws k → ((why : Refusal) → of_capture_call c (Refused why) ≡ nothing) → of_capture_call c Done ≡ was_emptied
+    kept_empties : (k : EntryKind) (c : CaptureCall) (kind : CallKind) (r : Answer) (u : Situation R) → Throws k → ((why : Refusal) → of_capture_call c (Err why) ≡ nothing) → of_capture_call c (Ok Done) ≡ was_emptied
         → Unless {T = Book × List Entry} (no_emptying t.stream kind t.ledger) r (t.stream, t.ledger) (u.stream, u.ledger) (Emptied t.stream kind (loss k t.stream) t.ledger r u.stream u.ledger)
         → u.source ≡ t.source → u.memory ≡ t.memory → u.host ≡ t.host → Kept (then c r u) u
     kept_empties k c kind r u throws e d step a m h =
         elim (refused_or_obeyed (no_emptying t.stream kind t.ledger) step) [
-          | inl stop ↦ rw (stop.1.0, made (ap (λ x. x.0) stop.1.1) a m (ap (λ x. x.1) stop.1.1) h) (kept_nothing c (Refused stop.0) (e stop.0))
+          | inl stop ↦ rw (stop.1.0, made (ap (λ x. x.0) stop.1.1) a m (ap (λ x. x.1) stop.1.1) h) (kept_nothing c (Err stop.0) (e stop.0))
           | inr go ↦ rw (go.1.answer, made go.1.stream a m go.1.ledger h) (kept_emptied k c _ throws d (has_room t.stream.ledger t.stream.unread go.0.1.1.0))
         ]
 
@@ -401,7 +401,7 @@ module _ {R : Type 0} (p : SourcePoints R) (start : Situation R) where
         elim (refused_or_obeyed (no_access t.stream t.memory l j (length part)) step.1) [
           | inl stop ↦
               let back : u.host ≡ t.host = into.host_after ∙ ap (λ z. paste t.host x z (length part)) stop.1.1 ∙ put_back t.host x n in
-              rw (stop.1.0, made into.stream_same into.source_same into.memory_same into.ledger_same back) (kept_nothing (Copy Own l j x n) (Refused stop.0) refl)
+              rw (stop.1.0, made into.stream_same into.source_same into.memory_same into.ledger_same back) (kept_nothing (Copy Own l j x n) (Err stop.0) refl)
           | inr go ↦
               let out = held_is _ l (not-false _ go.0.1.0) in
               let inside = ltb-false _ _ go.0.1.1.1.0 in
@@ -432,10 +432,10 @@ module _ {R : Type 0} (p : SourcePoints R) (start : Situation R) where
     kept_step Start r u step = kept_turns Start call.Start r u (λ why. refl) refl refl step.0 step.1
     kept_step (Tick Own Own k) r u step =
         elim (refused_or_obeyed (not (eqb (length t.memory) t.stream.geometry.buffer) ⇒ refusal.Memory ∷ not (eqb (length t.ledger) t.stream.geometry.ledger) ⇒ refusal.Memory ∷ []) step.0) [
-          | inl stop ↦ rw (stop.1.0, made (ap (λ x. x.0) stop.1.1) (ap (λ x. x.1) stop.1.1) (ap (λ x. x.2) stop.1.1) (ap (λ x. x.3) stop.1.1) step.1) (kept_nothing (Tick Own Own k) (Refused stop.0) refl)
+          | inl stop ↦ rw (stop.1.0, made (ap (λ x. x.0) stop.1.1) (ap (λ x. x.1) stop.1.1) (ap (λ x. x.2) stop.1.1) (ap (λ x. x.3) stop.1.1) step.1) (kept_nothing (Tick Own Own k) (Err stop.0) refl)
           | inr go ↦ elim (cases_if (moves (decides t.stream call.Tick)) go.1) [
             | inl moving ↦ elim (refused_or_obeyed (no_moving t.stream k) moving.1) [
-              | inl stop ↦ rw (stop.1.0, made (ap (λ x. x.0) stop.1.1) (ap (λ x. x.1) stop.1.1) (ap (λ x. x.2) stop.1.1) (ap (λ x. x.3) stop.1.1) step.1) (kept_nothing (Tick Own Own k) (Refused stop.0) refl)
+              | inl stop ↦ rw (stop.1.0, made (ap (λ x. x.0) stop.1.1) (ap (λ x. x.1) stop.1.1) (ap (λ x. x.2) stop.1.1) (ap (λ x. x.3) stop.1.1) step.1) (kept_nothing (Tick Own Own k) (Err stop.0) refl)
               | inr play ↦ kept_tick k r u (only_running t.stream.unread t.stream.state moving.0) (leb-false _ _ play.0.1.0) play.1 step.1
             ]
             | inr still ↦ rw (still.1.answer, made (ap (λ x. x.0) still.1.same) (ap (λ x. x.1) still.1.same) (ap (λ x. x.2) still.1.same) (ap (λ x. x.3) still.1.same) step.1) (kept_still k t.stream.state)

@@ -2,12 +2,9 @@
 use Rattle.std.proofs.Common.{ℕ, ◌+◌, ◌<◌, List, [], ◌∷◌, ◌++◌, length, get_or, take, set, sym, refl, ap, ◌∙◌}
 use Rattle.std.proofs.lemmas.List.{reverse-append, take_more, take_more_set}
 use Rattle.account.specs.Histories.{Ran, Moment, History, Leads, EachMoment}
-use Rattle.calls.specs.declared.answer.Answer.{Answer}
+use Rattle.calls.specs.Answers.{Answer}
 
 module _ {T C : Type 0} (Step : T → C → Answer → T → Type 0) where
-  pub ran_none : {start before : T} {past : History T C} → Leads Step start past before → Ran Step start past [] [] before
-  ran_none led = record { since = []; leads = led; calls_made = refl; answers_told = refl }
-
   ran_more : {start t u : T} {past : History T C} {cs : List C} {rs : List Answer} (c : C) (r : Answer) → Ran Step start past cs rs t → Step t c r u → Ran Step start past (cs ++ (c ∷ [])) (rs ++ (r ∷ [])) u
   ran_more {t = t} {u = u} {cs = cs} {rs = rs} c r ran step =
       record {

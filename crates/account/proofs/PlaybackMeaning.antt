@@ -1,13 +1,12 @@
 -- Playback: each call leaves a state that means what it says, and so meets a lease in no state that refuses it by 4. Assumes nothing.
-use Rattle.std.proofs.Common.{◌≡◌, ℕ, ◌+◌, ◌-◌, ◌≤◌, true, false, cond, not, ◌&&◌, eqb, ltb, leb, ◌≢◌, List, [], ◌∷◌, length, is_some, None, Option, refl, ap, inl, inr, arith}
+use Rattle.std.proofs.Common.{◌≡◌, ℕ, ◌+◌, ◌-◌, ◌≤◌, true, false, cond, not, ◌&&◌, eqb, ltb, leb, ◌≢◌, List, [], ◌∷◌, length, is_some, None, Option, refl, ap, inl, inr, arith, Ok, Err}
 use Rattle.std.proofs.lemmas.Bool.{both_ways, cases_Bool, cond_both, eqb-true, eqb-false, leb-true, leb-false}
 use Rattle.codes.specs.declared.refusal.Refusal.TheVariants as refusal
 use Rattle.codes.specs.declared.state.State.{State}
 use Rattle.codes.specs.declared.state.State.TheVariants.{Setup, Prepared, Running, Xrun, Draining, Paused}
 use Rattle.frames.specs.declared.frame.Frame.{Frame}
 use Rattle.sinks.specs.Sink.{SinkPoints}
-use Rattle.calls.specs.declared.answer.Answer.{Answer}
-use Rattle.calls.specs.declared.answer.Answer.TheVariants.{Refused}
+use Rattle.calls.specs.Answers.{Answer}
 use Rattle.calls.specs.declared.call.Given.TheVariants.{Own, Another}
 use Rattle.calls.specs.declared.call.PlaybackCall.{PlaybackCall}
 use Rattle.calls.specs.declared.call.PlaybackCall.TheVariants.{Begin, Put, Mix, Commit, Start, Tick, Pause, Resume, Drain, Drop, Prepare, Take}
@@ -15,7 +14,7 @@ use Rattle.calls.specs.declared.entry.Entry.{Entry}
 use Rattle.calls.specs.declared.lease_parts.LeaseParts.{LeaseParts}
 use Rattle.calls.specs.declared.verdict.CallKind.{CallKind}
 use Rattle.calls.specs.declared.verdict.CallKind.TheVariants as call
-use Rattle.calls.specs.declared.verdict.Verdict.TheVariants.{Stay, Enter, Refuse}
+use Rattle.calls.specs.declared.verdict.Effect.TheVariants.{Stay, Enter}
 use Rattle.calls.specs.Lending.{holds}
 use Rattle.account.specs.Areas.{with_none}
 use Rattle.account.specs.Limits.{frame_limit}
@@ -36,7 +35,7 @@ use Rattle.account.proofs.Spared.{differ, refused_otherwise, done_is_no_refusal,
 
 -- a lease goes out only where the state says nothing of it
 lent_means : (s : State) (w th : ℕ) (out out' : Option LeaseParts) → is_refusal (playback_decides s call.Begin w) ≡ false → PlaybackMeans s w th out → PlaybackMeans s w th out'
-lent_means s w th out out' = obeyed_in (λ s. PlaybackMeans s w th out → PlaybackMeans s w th out') (Prepared ∷ Running ∷ Paused ∷ []) Stay (λ _. (λ m. m, (λ m. m, (λ m. m, tt)))) s
+lent_means s w th out out' = obeyed_in (λ s. PlaybackMeans s w th out → PlaybackMeans s w th out') (Prepared ∷ Running ∷ Paused ∷ []) (Ok Stay) (λ _. (λ m. m, (λ m. m, (λ m. m, tt)))) s
 
 -- and may end in every state
 ended_means : (s : State) (w th : ℕ) (out : Option LeaseParts) → PlaybackMeans s w th out → PlaybackMeans s w th None
@@ -53,7 +52,7 @@ enough s w th = cond (among s (Prepared ∷ []) && leb th w) Running s
 
 committed_means : (s : State) (w th n : ℕ) (out : Option LeaseParts) → 1 ≤ th → is_refusal (playback_decides s call.Commit w) ≡ false → PlaybackMeans s w th out → PlaybackMeans (enough s (w + n) th) (w + n) th None
 committed_means s w th n out some =
-    obeyed_in (λ s. PlaybackMeans s w th out → PlaybackMeans (enough s (w + n) th) (w + n) th None) (Prepared ∷ Running ∷ Paused ∷ []) Stay
+    obeyed_in (λ s. PlaybackMeans s w th out → PlaybackMeans (enough s (w + n) th) (w + n) th None) (Prepared ∷ Running ∷ Paused ∷ []) (Ok Stay)
     (λ _. (λ m. cond_both (leb th (w + n)) Running Prepared (λ s. PlaybackMeans s (w + n) th None) (λ e. omega (arith, leb-true th (w + n) e)) (leb-false th (w + n)), (λ m. omega arith, (λ m. omega arith, tt)))) s
 
 -- what a call that turns the state to another must keep
@@ -62,21 +61,21 @@ TurnsRightly k out = (s : State) (w th : ℕ) → is_refusal (playback_decides s
 
 start_means : (out : Option LeaseParts) → TurnsRightly call.Start out
 start_means out s w th =
-    obeyed_in (λ s. PlaybackMeans s w th out → PlaybackMeans (entered (playback_decides s call.Start w) s) w th out) (Prepared ∷ []) (cond (eqb w 0) (Refuse refusal.NothingWaiting) (Enter Running))
+    obeyed_in (λ s. PlaybackMeans s w th out → PlaybackMeans (entered (playback_decides s call.Start w) s) w th out) (Prepared ∷ []) (cond (eqb w 0) (Err refusal.NothingWaiting) (Ok (Enter Running)))
     (λ e. (λ m. elim (cases_Bool (eqb w 0)) [ inl none ↦ absurd (both_ways true (rw none at e) refl) | inr some ↦ rw some (omega (arith, eqb-false w 0 some)) ], tt)) s
 
 pause_means : (out : Option LeaseParts) → TurnsRightly call.Pause out
-pause_means out s w th = obeyed_in (λ s. PlaybackMeans s w th out → PlaybackMeans (entered (playback_decides s call.Pause w) s) w th out) (Running ∷ []) (Enter Paused) (λ _. (λ m. m, tt)) s
+pause_means out s w th = obeyed_in (λ s. PlaybackMeans s w th out → PlaybackMeans (entered (playback_decides s call.Pause w) s) w th out) (Running ∷ []) (Ok (Enter Paused)) (λ _. (λ m. m, tt)) s
 
 resume_means : (out : Option LeaseParts) → TurnsRightly call.Resume out
-resume_means out s w th = obeyed_in (λ s. PlaybackMeans s w th out → PlaybackMeans (entered (playback_decides s call.Resume w) s) w th out) (Paused ∷ []) (Enter Running) (λ _. (λ m. m, tt)) s
+resume_means out s w th = obeyed_in (λ s. PlaybackMeans s w th out → PlaybackMeans (entered (playback_decides s call.Resume w) s) w th out) (Paused ∷ []) (Ok (Enter Running)) (λ _. (λ m. m, tt)) s
 
 -- with no lease out, the stream drains what waits, and is set up again where nothing does
 drain_means : TurnsRightly call.Drain None
 drain_means s w th =
     let drains : PlaybackMeans (cond (eqb w 0) Setup Draining) w th None =
     cond_both (eqb w 0) Setup Draining (λ s. PlaybackMeans s w th None) (λ none. (eqb-true w 0 none, refl)) (λ some. (omega (arith, eqb-false w 0 some), refl)) in
-    obeyed_in (λ s. PlaybackMeans s w th None → PlaybackMeans (entered (playback_decides s call.Drain w) s) w th None) (Prepared ∷ Running ∷ []) (Enter (cond (eqb w 0) Setup Draining))
+    obeyed_in (λ s. PlaybackMeans s w th None → PlaybackMeans (entered (playback_decides s call.Drain w) s) w th None) (Prepared ∷ Running ∷ []) (Ok (Enter (cond (eqb w 0) Setup Draining)))
     (λ _. (λ m. drains, (λ m. drains, tt))) s
 
 -- what a call that throws away all that waits must bring about
@@ -86,10 +85,10 @@ EmptiesRightly k = (s : State) (w th : ℕ) → 1 ≤ th → is_refusal (playbac
 drop_means : EmptiesRightly call.Drop
 drop_means s w th some =
     let empty : PlaybackMeans Setup 0 th None = (refl, refl) in
-    obeyed_in (λ s. PlaybackMeans (entered (playback_decides s call.Drop w) s) 0 th None) (Prepared ∷ Running ∷ Xrun ∷ Draining ∷ Paused ∷ []) (Enter Setup) (λ _. (empty, (empty, (empty, (empty, (empty, tt)))))) s
+    obeyed_in (λ s. PlaybackMeans (entered (playback_decides s call.Drop w) s) 0 th None) (Prepared ∷ Running ∷ Xrun ∷ Draining ∷ Paused ∷ []) (Ok (Enter Setup)) (λ _. (empty, (empty, (empty, (empty, (empty, tt)))))) s
 
 prepare_means : EmptiesRightly call.Prepare
-prepare_means s w th some = obeyed_in (λ s. PlaybackMeans (entered (playback_decides s call.Prepare w) s) 0 th None) (Setup ∷ Xrun ∷ []) (Enter Prepared) (λ _. (some, (some, tt))) s
+prepare_means s w th some = obeyed_in (λ s. PlaybackMeans (entered (playback_decides s call.Prepare w) s) 0 th None) (Setup ∷ Xrun ∷ []) (Ok (Enter Prepared)) (λ _. (some, (some, tt))) s
 
 -- where the last frame went a draining stream is set up again, and any other is in XRUN, as it is where the sink stopped
 abbrev ticked : State → ℕ → ℕ → ℕ → State
@@ -212,21 +211,21 @@ module _ {S : Type 0} (p : SinkPoints S) (t u : Situation S) (r : Answer) (m : M
   rightly l = met_rightly t.stream.state (waits t.stream) _ _ l m
 
   -- put and mix, with what an obeyed one writes
-  accesses : (l : LeaseParts) (j n : ℕ) (frames : List Frame) → Unless (no_access t.stream t.memory l j n) r t.memory u.memory (Written t.memory (l.place + j) frames r u.memory) → r ≢ Refused refusal.State
+  accesses : (l : LeaseParts) (j n : ℕ) (frames : List Frame) → Unless (no_access t.stream t.memory l j n) r t.memory u.memory (Written t.memory (l.place + j) frames r u.memory) → r ≢ Err refusal.State
   accesses l j n frames went =
       spared (no_access t.stream t.memory l j n) refusal.State r t.memory u.memory (access_spared _ _ _ _ (rightly l)) went (λ _ done. done_is_no_refusal r refusal.State done.answer)
 
-  commits : (l : LeaseParts) (n : ℕ) → Commits t.stream l n r u.stream → r ≢ Refused refusal.State
+  commits : (l : LeaseParts) (n : ℕ) → Commits t.stream l n r u.stream → r ≢ Err refusal.State
   commits l n went =
       let b = t.stream in
       spared (not (holds b.lending.out l) ⇒ refusal.WrongLease ∷ refusing_unless (among b.state (Xrun ∷ [])) (decides b call.Commit) ∷ []) refusal.State r b u.stream (commit_spared _ _ _ (rightly l)) (by_table b u.stream r m l n went)
       (λ none further. spared (refusing (decides b call.Commit) ∷ ltb l.length n ⇒ refusal.Beyond ∷ ltb frame_limit (b.committed + n) ⇒ refusal.Limit ∷ []) refusal.State r (lends b (with_none b.lending)) u.stream (limited_spared _ _ _ (rightly l none.0)) further
       (λ _ done. done_is_no_refusal r refusal.State done.answer))
 
-  elsewhere : Refuses refusal.Memory r t u → r ≢ Refused refusal.State
+  elsewhere : Refuses refusal.Memory r t u → r ≢ Err refusal.State
   elsewhere step = refused_otherwise r refusal.Memory refusal.State step.0 (differ refusal.Memory refusal.State refl)
 
-  pub no_wrong_state : (c : PlaybackCall) → Step p t c r u → names_lease (kind_of c) ≡ true → r ≢ Refused refusal.State
+  pub no_wrong_state : (c : PlaybackCall) → Step p t c r u → names_lease (kind_of c) ≡ true → r ≢ Err refusal.State
   no_wrong_state (Begin wanted) step named = absurd (both_ways false refl named)
   no_wrong_state (Put Own l j fs) step named = accesses l j (length fs.now) _ step.0
   no_wrong_state (Put Another l j fs) step named = elsewhere step

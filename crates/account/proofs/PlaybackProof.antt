@@ -1,5 +1,5 @@
 -- Playback: every frame and every lease is accounted for, after any calls since set-up. Assumes nothing.
-use Rattle.std.proofs.Common.{◌≡◌, ℕ, suc, ◌+◌, ◌-◌, ◌%◌, ◌<◌, ◌≤◌, true, false, not, ◌&&◌, eqb, ltb, List, [], ◌∷◌, ◌++◌, map, length, get_or, take, drop, is_some, Some, None, Option, sym, refl, ap, ◌∙◌, subst, inl, inr, mod-lt, arith}
+use Rattle.std.proofs.Common.{◌≡◌, ℕ, suc, ◌+◌, ◌-◌, ◌%◌, ◌<◌, ◌≤◌, true, false, not, ◌&&◌, eqb, ltb, List, [], ◌∷◌, ◌++◌, map, length, get_or, take, drop, is_some, Some, None, Option, sym, refl, ap, ◌∙◌, subst, inl, inr, mod-lt, arith, Ok, Err}
 use native.Mathlib.Nat.{mod-add-mod}
 use lib.Seq.{paste, length-paste}
 use Rattle.std.proofs.lemmas.Bool.{cases_lt, cases_eq, cases_Bool, leb-false, ltb-false, eqb-true, eqb-false, not-false, lt-ltb, and_cases, both_ways}
@@ -20,8 +20,8 @@ use Rattle.sinks.specs.declared.stop.Stop.{Stop}
 use Rattle.sinks.specs.Making.{Lawful}
 use Rattle.sinks.specs.Sink.{SinkPoints, Took}
 use Rattle.sinks.proofs.Chains.{took_none, took_join, took_heal, offers_took}
-use Rattle.calls.specs.declared.answer.Answer.{Answer}
-use Rattle.calls.specs.declared.answer.Answer.TheVariants.{Done, Granted, Ticked, Taken, Refused}
+use Rattle.calls.specs.Answers.{Answer}
+use Rattle.calls.specs.declared.answer.Outcome.TheVariants.{Done, Granted, Ticked, Taken}
 use Rattle.calls.specs.declared.call.Given.TheVariants.{Own, Another}
 use Rattle.calls.specs.declared.call.PlaybackCall.{PlaybackCall}
 use Rattle.calls.specs.declared.call.PlaybackCall.TheVariants.{Begin, Put, Mix, Commit, Start, Tick, Pause, Resume, Drain, Drop, Prepare, Take}
@@ -132,7 +132,7 @@ module _ {S : Type 0} (p : SinkPoints S) (law : (s : S) → Lawful (p.makes s)) 
     kept_turned : (c : PlaybackCall) (r : Answer) (u : Situation S) (s : State) → of_playback_call c r ≡ nothing → Kept (then c r u) (with (turned t.stream s))
     kept_turned c r u s e = record { framed = rw e kept.framed; rising = rw e kept.rising; took = rw e kept.took; lent = rw e kept.lent; area_out = kept.area_out; ledgered = kept.ledgered }
 
-    kept_begin : (wanted : ℕ) (u : Situation S) → t.stream.lending.out ≡ None → Kept (then (Begin wanted) (Granted (next_lease t.stream wanted)) u) (with (lends t.stream (with_out t.stream.lending (next_lease t.stream wanted))))
+    kept_begin : (wanted : ℕ) (u : Situation S) → t.stream.lending.out ≡ None → Kept (then (Begin wanted) (Ok (Granted (next_lease t.stream wanted))) u) (with (lends t.stream (with_out t.stream.lending (next_lease t.stream wanted))))
     kept_begin wanted u none =
         let low = kept.framed.low in
         let place = mod-lt t.stream.committed kept.framed.sized in
@@ -145,8 +145,8 @@ module _ {S : Type 0} (p : SinkPoints S) (law : (s : S) → Lawful (p.makes s)) 
           ledgered = kept.ledgered;
         }
 
-    kept_write : (c : PlaybackCall) (u : Situation S) (l : LeaseParts) (j : ℕ) (fs : List Frame) → of_playback_call c Done ≡ nothing → t.stream.lending.out ≡ Some l → j + length fs ≤ l.length
-        → Kept (then c Done u) (record { stream = t.stream; sink = t.sink; memory = paste t.memory (l.place + j) fs (length fs); ledger = t.ledger })
+    kept_write : (c : PlaybackCall) (u : Situation S) (l : LeaseParts) (j : ℕ) (fs : List Frame) → of_playback_call c (Ok Done) ≡ nothing → t.stream.lending.out ≡ Some l → j + length fs ≤ l.length
+        → Kept (then c (Ok Done) u) (record { stream = t.stream; sink = t.sink; memory = paste t.memory (l.place + j) fs (length fs); ledger = t.ledger })
     kept_write c u l j fs none held_out within =
         let k = kept.framed in
         let at = rw held_out at kept.area_out in
@@ -168,11 +168,11 @@ module _ {S : Type 0} (p : SinkPoints S) (law : (s : S) → Lawful (p.makes s)) 
         ] in
         record { framed = rw none (framed_write k m' long same); rising = rw none kept.rising; took = rw none kept.took; lent = rw none kept.lent; area_out = kept.area_out; ledgered = kept.ledgered }
 
-    kept_back : (l : LeaseParts) (n : ℕ) (why : Refusal) (u : Situation S) → t.stream.lending.out ≡ Some l → ends_lease why ≡ true → Kept (then (Commit l n) (Refused why) u) (with (lends t.stream (with_none t.stream.lending)))
+    kept_back : (l : LeaseParts) (n : ℕ) (why : Refusal) (u : Situation S) → t.stream.lending.out ≡ Some l → ends_lease why ≡ true → Kept (then (Commit l n) (Err why) u) (with (lends t.stream (with_none t.stream.lending)))
     kept_back l n why u out ends =
         record { framed = rw ends kept.framed; rising = rw ends kept.rising; took = rw ends kept.took; lent = rw ends (lent_back l (rw out at kept.lent)); area_out = tt; ledgered = kept.ledgered }
 
-    kept_commit : (l : LeaseParts) (n : ℕ) (u : Situation S) → t.stream.lending.out ≡ Some l → n ≤ l.length → Kept (then (Commit l n) Done u) (with (moved t.stream n))
+    kept_commit : (l : LeaseParts) (n : ℕ) (u : Situation S) → t.stream.lending.out ≡ Some l → n ≤ l.length → Kept (then (Commit l n) (Ok Done) u) (with (moved t.stream n))
     kept_commit l n u out within =
         let k = kept.framed in
         let at = rw out at kept.area_out in
@@ -193,7 +193,7 @@ module _ {S : Type 0} (p : SinkPoints S) (law : (s : S) → Lawful (p.makes s)) 
           ledgered = kept.ledgered;
         }
 
-    kept_take : (u : Situation S) → Kept (then (Take Own) (Taken (oldest_of t.stream.ledger t.ledger)) u) (with (noted_as t.stream (with_taken t.stream.ledger)))
+    kept_take : (u : Situation S) → Kept (then (Take Own) (Ok (Taken (oldest_of t.stream.ledger t.ledger))) u) (with (noted_as t.stream (with_taken t.stream.ledger)))
     kept_take u =
         let n = t.stream.ledger in
         let es = t.ledger in
@@ -228,14 +228,14 @@ module _ {S : Type 0} (p : SinkPoints S) (law : (s : S) → Lawful (p.makes s)) 
           ledgered = ledger_noted kept.ledgered due (λ e. room);
         })
 
-    kept_still : (k : ℕ) (s : State) (u : Situation S) → Kept (then (Tick Own Own k) (Ticked (record { frames = 0; state = s; periods = 0 })) u) t
+    kept_still : (k : ℕ) (s : State) (u : Situation S) → Kept (then (Tick Own Own k) (Ok (Ticked (record { frames = 0; state = s; periods = 0 }))) u) t
     kept_still k s u =
         record { framed = rw (append-nil (played past)) kept.framed; rising = kept.rising; took = rw (append-nil (played past)) kept.took; lent = kept.lent; area_out = kept.area_out; ledgered = kept.ledgered }
 
     -- all that wait are thrown away, and lie in an entry
-    kept_emptied : (k : EntryKind) (c : PlaybackCall) (s : State) (u : Situation S) (sink' : S) → of_playback_call c Done ≡ was_emptied → Took p start.sink (map (λ n. get_or (frames_committed past) n silence) (played past)) sink'
+    kept_emptied : (k : EntryKind) (c : PlaybackCall) (s : State) (u : Situation S) (sink' : S) → of_playback_call c (Ok Done) ≡ was_emptied → Took p start.sink (map (λ n. get_or (frames_committed past) n silence) (played past)) sink'
         → (ltb 0 (waits t.stream) ≡ true → t.stream.ledger.count < t.stream.ledger.size)
-        → Kept (then c Done u) (record { stream = emptied t.stream s (loss k t.stream); sink = sink'; memory = t.memory; ledger = noted t.stream.ledger t.ledger (loss k t.stream) })
+        → Kept (then c (Ok Done) u) (record { stream = emptied t.stream s (loss k t.stream); sink = sink'; memory = t.memory; ledger = noted t.stream.ledger t.ledger (loss k t.stream) })
     kept_emptied k c s u sink' e took room =
         let b = t.stream in
         let f = kept.framed in
@@ -267,33 +267,33 @@ module _ {S : Type 0} (p : SinkPoints S) (law : (s : S) → Lawful (p.makes s)) 
               }
         ]
 
-    kept_another : (c : PlaybackCall) (r : Answer) (u : Situation S) → of_playback_call c (Refused refusal.Memory) ≡ nothing → Refuses refusal.Memory r t u → Kept (then c r u) u
-    kept_another c r u e step = rw (step.0, step.1) (kept_nothing c (Refused refusal.Memory) _ e)
+    kept_another : (c : PlaybackCall) (r : Answer) (u : Situation S) → of_playback_call c (Err refusal.Memory) ≡ nothing → Refuses refusal.Memory r t u → Kept (then c r u) u
+    kept_another c r u e step = rw (step.0, step.1) (kept_nothing c (Err refusal.Memory) _ e)
 
-    kept_turns : (c : PlaybackCall) (k : CallKind) (r : Answer) (u : Situation S) → ((why : Refusal) → of_playback_call c (Refused why) ≡ nothing) → of_playback_call c Done ≡ nothing → (reasons : List Reason) → Unless reasons r t.stream u.stream (Turned t.stream k r u.stream) → RestSame t u → Kept (then c r u) u
+    kept_turns : (c : PlaybackCall) (k : CallKind) (r : Answer) (u : Situation S) → ((why : Refusal) → of_playback_call c (Err why) ≡ nothing) → of_playback_call c (Ok Done) ≡ nothing → (reasons : List Reason) → Unless reasons r t.stream u.stream (Turned t.stream k r u.stream) → RestSame t u → Kept (then c r u) u
     kept_turns c k r u e d reasons step rest =
         elim (refused_or_obeyed reasons step) [
-          | inl stop ↦ rw (stop.1.0, made stop.1.1 rest.sink_same rest.memory_same rest.ledger_same) (kept_nothing c (Refused stop.0) _ (e stop.0))
-          | inr go ↦ rw (go.1.answer, made go.1.stream rest.sink_same rest.memory_same rest.ledger_same) (kept_turned c Done _ _ d)
+          | inl stop ↦ rw (stop.1.0, made stop.1.1 rest.sink_same rest.memory_same rest.ledger_same) (kept_nothing c (Err stop.0) _ (e stop.0))
+          | inr go ↦ rw (go.1.answer, made go.1.stream rest.sink_same rest.memory_same rest.ledger_same) (kept_turned c (Ok Done) _ _ d)
         ]
 
     kept_step : (c : PlaybackCall) (r : Answer) (u : Situation S) → Step p t c r u → Kept (then c r u) u
     kept_step (Begin wanted) r u step =
         let rest = step.1 in
         elim (refused_or_obeyed (no_begin t.stream wanted) step.0) [
-          | inl stop ↦ rw (stop.1.0, made stop.1.1 rest.sink_same rest.memory_same rest.ledger_same) (kept_nothing (Begin wanted) (Refused stop.0) _ refl)
+          | inl stop ↦ rw (stop.1.0, made stop.1.1 rest.sink_same rest.memory_same rest.ledger_same) (kept_nothing (Begin wanted) (Err stop.0) _ refl)
           | inr go ↦ rw (go.1.answer, made go.1.stream rest.sink_same rest.memory_same rest.ledger_same) (kept_begin wanted _ (none_out _ go.0.0))
         ]
     kept_step (Put Own l j fs) r u step =
         elim (refused_or_obeyed (no_access t.stream t.memory l j (length fs.now)) step.0) [
-          | inl stop ↦ rw (stop.1.0, made step.1 step.2 stop.1.1 step.3) (kept_nothing (Put Own l j fs) (Refused stop.0) _ refl)
+          | inl stop ↦ rw (stop.1.0, made step.1 step.2 stop.1.1 step.3) (kept_nothing (Put Own l j fs) (Err stop.0) _ refl)
           | inr go ↦ rw (go.1.answer, made step.1 step.2 go.1.memory step.3) (kept_write (Put Own l j fs) _ l j fs.now refl (held_is _ l (not-false _ go.0.1.0)) (ltb-false _ _ go.0.1.1.1.0))
         ]
     kept_step (Put Another l j fs) r u step = kept_another (Put Another l j fs) r u refl step
     kept_step (Mix Own l j fs) r u step =
         let below = area t.memory (l.place + j) (length fs.now) in
         elim (refused_or_obeyed (no_access t.stream t.memory l j (length fs.now)) step.0) [
-          | inl stop ↦ rw (stop.1.0, made step.1 step.2 stop.1.1 step.3) (kept_nothing (Mix Own l j fs) (Refused stop.0) _ refl)
+          | inl stop ↦ rw (stop.1.0, made step.1 step.2 stop.1.1 step.3) (kept_nothing (Mix Own l j fs) (Err stop.0) _ refl)
           | inr go ↦
               let inside = ltb-false _ _ go.0.1.1.1.0 in
               let long : length (mixed_all below fs.now) ≤ length fs.now = omega (arith, length_mixed below fs.now, length-take (length fs.now) (drop (l.place + j) t.memory)) in
@@ -303,9 +303,9 @@ module _ {S : Type 0} (p : SinkPoints S) (law : (s : S) → Lawful (p.makes s)) 
     kept_step (Commit l n) r u step =
         let rest = step.1 in
         elim (cases_if (not (holds t.stream.lending.out l)) step.0) [
-          | inl stop ↦ rw (stop.1.0, made stop.1.1 rest.sink_same rest.memory_same rest.ledger_same) (kept_nothing (Commit l n) (Refused refusal.WrongLease) _ refl)
+          | inl stop ↦ rw (stop.1.0, made stop.1.1 rest.sink_same rest.memory_same rest.ledger_same) (kept_nothing (Commit l n) (Err refusal.WrongLease) _ refl)
           | inr on ↦ elim (cases_if (among t.stream.state (Setup ∷ Draining ∷ [])) on.1) [
-            | inl stop ↦ rw (stop.1.0, made stop.1.1 rest.sink_same rest.memory_same rest.ledger_same) (kept_nothing (Commit l n) (Refused refusal.State) _ refl)
+            | inl stop ↦ rw (stop.1.0, made stop.1.1 rest.sink_same rest.memory_same rest.ledger_same) (kept_nothing (Commit l n) (Err refusal.State) _ refl)
             | inr further-on ↦
                 let out = held_is _ l (not-false _ on.0) in
                 elim (cases_if (among t.stream.state (Xrun ∷ [])) further-on.1) [
@@ -323,10 +323,10 @@ module _ {S : Type 0} (p : SinkPoints S) (law : (s : S) → Lawful (p.makes s)) 
     kept_step Start r u step = kept_turns Start call.Start r u (λ why. refl) refl (refusing (decides t.stream call.Start) ∷ []) step.0 step.1
     kept_step (Tick Own Own k) r u step =
         elim (refused_or_obeyed (not (eqb (length t.memory) t.stream.geometry.buffer) ⇒ refusal.Memory ∷ not (eqb (length t.ledger) t.stream.geometry.ledger) ⇒ refusal.Memory ∷ []) step.0) [
-          | inl stop ↦ rw (stop.1.0, made (ap (λ x. x.0) stop.1.1) (ap (λ x. x.1) stop.1.1) step.1 (ap (λ x. x.2) stop.1.1)) (kept_nothing (Tick Own Own k) (Refused stop.0) _ refl)
+          | inl stop ↦ rw (stop.1.0, made (ap (λ x. x.0) stop.1.1) (ap (λ x. x.1) stop.1.1) step.1 (ap (λ x. x.2) stop.1.1)) (kept_nothing (Tick Own Own k) (Err stop.0) _ refl)
           | inr go ↦ elim (cases_if (moves (decides t.stream call.Tick)) go.1) [
             | inl moving ↦ elim (cases_if (is_full t.stream.ledger) moving.1) [
-              | inl stop ↦ rw (stop.1.0, made (ap (λ x. x.0) stop.1.1) (ap (λ x. x.1) stop.1.1) step.1 (ap (λ x. x.2) stop.1.1)) (kept_nothing (Tick Own Own k) (Refused refusal.LedgerFull) _ refl)
+              | inl stop ↦ rw (stop.1.0, made (ap (λ x. x.0) stop.1.1) (ap (λ x. x.1) stop.1.1) step.1 (ap (λ x. x.2) stop.1.1)) (kept_nothing (Tick Own Own k) (Err refusal.LedgerFull) _ refl)
               | inr play ↦ kept_tick k r u (leb-false _ _ play.0) play.1 step.1
             ]
             | inr still ↦ rw (still.1.answer, made (ap (λ x. x.0) still.1.same) (ap (λ x. x.1) still.1.same) step.1 (ap (λ x. x.2) still.1.same)) (kept_still k t.stream.state _)
@@ -339,20 +339,20 @@ module _ {S : Type 0} (p : SinkPoints S) (law : (s : S) → Lawful (p.makes s)) 
     kept_step Drain r u step = kept_turns Drain call.Drain r u (λ why. refl) refl (is_some t.stream.lending.out ⇒ refusal.LeaseOut ∷ refusing (decides t.stream call.Drain) ∷ []) step.0 step.1
     kept_step (Drop Own) r u step =
         elim (refused_or_obeyed (no_emptying t.stream call.Drop t.ledger) step.0) [
-          | inl stop ↦ rw (stop.1.0, made (ap (λ x. x.0) stop.1.1) step.1 step.2 (ap (λ x. x.1) stop.1.1)) (kept_nothing (Drop Own) (Refused stop.0) _ refl)
+          | inl stop ↦ rw (stop.1.0, made (ap (λ x. x.0) stop.1.1) step.1 step.2 (ap (λ x. x.1) stop.1.1)) (kept_nothing (Drop Own) (Err stop.0) _ refl)
           | inr go ↦ rw (go.1.answer, made go.1.stream step.1 step.2 go.1.ledger) (kept_emptied kinds.Dropped (Drop Own) _ _ t.sink refl kept.took (has_room t.stream.ledger (waits t.stream) go.0.1.1.0))
         ]
     kept_step (Drop Another) r u step = kept_another (Drop Another) r u refl step
     kept_step (Prepare Own) r u step =
         elim (refused_or_obeyed (no_emptying t.stream call.Prepare t.ledger) step.0) [
-          | inl stop ↦ rw (stop.1.0, made (ap (λ x. x.0) stop.1.1) (ap (λ x. x.1) stop.1.1) step.1 (ap (λ x. x.2) stop.1.1)) (kept_nothing (Prepare Own) (Refused stop.0) _ refl)
+          | inl stop ↦ rw (stop.1.0, made (ap (λ x. x.0) stop.1.1) (ap (λ x. x.1) stop.1.1) step.1 (ap (λ x. x.2) stop.1.1)) (kept_nothing (Prepare Own) (Err stop.0) _ refl)
           | inr go ↦ rw (go.1.0.answer, made {sink = u.sink} go.1.0.stream refl step.1 go.1.0.ledger) (kept_emptied kinds.Prepared (Prepare Own) _ _ u.sink refl (took_heal p law start.sink t.sink u.sink _ kept.took go.1.1) (has_room t.stream.ledger (waits t.stream) go.0.1.1.0))
         ]
     kept_step (Prepare Another) r u step = kept_another (Prepare Another) r u refl step
     kept_step (Take Own) r u step =
         let rest = step.1 in
         elim (refused_or_obeyed (not (eqb (length t.ledger) t.stream.geometry.ledger) ⇒ refusal.Memory ∷ []) step.0) [
-          | inl stop ↦ rw (stop.1.0, made stop.1.1 rest.sink_same rest.memory_same rest.ledger_same) (kept_nothing (Take Own) (Refused stop.0) _ refl)
+          | inl stop ↦ rw (stop.1.0, made stop.1.1 rest.sink_same rest.memory_same rest.ledger_same) (kept_nothing (Take Own) (Err stop.0) _ refl)
           | inr go ↦ rw (go.1.answer, made go.1.stream rest.sink_same rest.memory_same rest.ledger_same) (kept_take _)
         ]
     kept_step (Take Another) r u step = kept_another (Take Another) r u refl step

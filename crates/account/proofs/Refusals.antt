@@ -1,22 +1,13 @@
 -- Which way a call went: refused by the first reason that stood, or obeyed.
-use Rattle.std.proofs.Common.{◌≡◌, ℕ, ◌≤◌, Bool, true, false, cond, not, eqb, ◌≢◌, ◌⊎◌, List, [], ◌∷◌, ◌++◌, length, take, drop, Some, None, Option, sym, refl, ap, ◌∙◌, inl, inr, arith}
-use Rattle.std.proofs.lemmas.List.{length-take-le, take-append-drop}
-use Rattle.std.proofs.lemmas.Bool.{ne_eqb}
+use Rattle.std.proofs.Common.{◌≡◌, ℕ, Bool, true, false, cond, ◌⊎◌, List, [], ◌∷◌, ◌++◌, take, drop, Some, None, Option, refl, ap, ◌∙◌, inl, inr, arith, Err}
+use Rattle.std.proofs.lemmas.List.{take-append-drop}
 use Rattle.codes.specs.declared.refusal.Refusal.{Refusal}
-use Rattle.calls.specs.declared.answer.Answer.{Answer}
-use Rattle.calls.specs.declared.answer.Answer.TheVariants.{Refused}
-use Rattle.calls.specs.declared.verdict.Verdict.{Verdict}
-use Rattle.calls.specs.declared.verdict.Verdict.TheVariants.{Stay, Move, Enter, Refuse}
+use Rattle.calls.specs.Answers.{Answer}
 use Rattle.account.specs.Rules.{Refuses, Reason, If, Unless, first_of}
-use Rattle.account.specs.States.{is_refusal}
 
 pub cases_if : (b : Bool) {A B : Type 0} → If b A B → ((b ≡ true) × A) ⊎ ((b ≡ false) × B)
 cases_if true x = inl (refl, x)
 cases_if false x = inr (refl, x)
-
-pub either_way : (b : Bool) {A : Type 0} → If b A A → A
-either_way true x = x
-either_way false x = x
 
 abbrev pub NoneStands : List Reason → Type 0
 NoneStands [] = Unit {0}
@@ -34,10 +25,6 @@ refused_or_obeyed (why ∷ others) went =
 pub holds_after : {T : Type 0} (Q : T → Type 0) (reasons : List Reason) (r : Answer) {t u : T} {P : Type 0} → Unless reasons r t u P → Q t → (NoneStands reasons → P → Q u) → Q u
 holds_after Q reasons r went before obeyed = elim (refused_or_obeyed reasons went) [ inl stop ↦ rw stop.1.1 before | inr go ↦ obeyed go.0 go.1 ]
 
--- a part of a memory that has another length, and the memory that it is put back into
-pub another_part : {X : Type 0} (xs : List X) (n own : ℕ) → (n ≤ length xs) × (n ≢ own) → not (eqb (length (take n xs)) own) ≡ true
-another_part xs n own is = rw (ne_eqb (length (take n xs)) own (λ e. is.1 (sym (length-take-le n xs is.0) ∙ e)))
-
 pub put_back : {X : Type 0} (xs part : List X) (n : ℕ) → part ≡ take n xs → part ++ drop n xs ≡ xs
 put_back xs part n same = ap (λ x. x ++ drop n xs) same ∙ take-append-drop n xs
 
@@ -49,12 +36,12 @@ only : (x y : Refusal) → Some x ≡ Some y → y ≡ x
 only x y p = cc
 
 refused_step : {T : Type 0} (b : Bool) (first why : Refusal) (o : Option Refusal) (r : Answer) (left u : T) (P : Type 0)
-    → cond b (Some first) o ≡ Some why → r ≡ Refused why → u ≡ left → (o ≡ Some why → P) → If b (Refuses first r left u) P
-refused_step true first why o r left u P e a s k = (a ∙ ap Refused (only first why e), s)
+    → cond b (Some first) o ≡ Some why → r ≡ Err why → u ≡ left → (o ≡ Some why → P) → If b (Refuses first r left u) P
+refused_step true first why o r left u P e a s k = (a ∙ ap Err (only first why e), s)
 refused_step false first why o r left u P e a s k = k e
 
 pub refused_by : {T : Type 0} (reasons : List Reason) (why : Refusal) (r : Answer) (left u : T) (P : Type 0)
-    → first_of reasons ≡ Some why → r ≡ Refused why → u ≡ left → Unless reasons r left u P
+    → first_of reasons ≡ Some why → r ≡ Err why → u ≡ left → Unless reasons r left u P
 refused_by [] why r left u P e a s = absurd (never None why refl e)
 refused_by (reason ∷ others) why r left u P e a s =
     refused_step reason.stands reason.why why (first_of others) r left u (Unless others r left u P) e a s (λ d. refused_by others why r left u P d a s)
@@ -69,9 +56,3 @@ pub obeyed_by : {T : Type 0} (reasons : List Reason) (r : Answer) (left u : T) (
 obeyed_by [] r left u P e p = p
 obeyed_by (reason ∷ others) r left u P e p =
     obeyed_step reason.stands reason.why (first_of others) r left u (Unless others r left u P) e (λ d. obeyed_by others r left u P d p)
-
-pub not_refusing : (v : Verdict) → ((why : Refusal) → v ≡ Refuse why → ⊥) → is_refusal v ≡ false
-not_refusing Stay h = refl
-not_refusing Move h = refl
-not_refusing (Enter s) h = refl
-not_refusing (Refuse why) h = absurd (h why refl)

@@ -1,12 +1,12 @@
 -- Refusals that a call is never answered by. Assumes nothing.
-use Rattle.std.proofs.Common.{◌≡◌, ℕ, Bool, true, false, not, eqb, ◌≢◌, List, [], ◌∷◌, refl, ap, inl, inr, arith}
+use Rattle.std.proofs.Common.{◌≡◌, ℕ, Bool, true, false, not, eqb, ◌≢◌, List, [], ◌∷◌, refl, ap, inl, inr, arith, Ok, Err}
 use Rattle.std.proofs.lemmas.Bool.{and_parts, eqb-false}
 use Rattle.codes.specs.declared.refusal.Refusal.{Refusal}
 use Rattle.codes.specs.declared.refusal.Refusal.TheVariants as refusal
 use Rattle.codes.specs.Refusals.{refusal_number}
-use Rattle.calls.specs.declared.answer.Answer.{Answer}
-use Rattle.calls.specs.declared.answer.Answer.TheVariants.{Done, Refused}
-use Rattle.calls.specs.declared.verdict.Verdict.{Verdict}
+use Rattle.calls.specs.Answers.{Answer}
+use Rattle.calls.specs.declared.answer.Outcome.TheVariants.{Done}
+use Rattle.calls.specs.Answers.{Verdict}
 use Rattle.account.specs.Rules.{Reason, ◌⇒◌, Unless}
 use Rattle.account.specs.States.{is_refusal, why_of, refusing}
 use Rattle.account.proofs.ByTable.{refusing_unless}
@@ -15,10 +15,10 @@ use Rattle.account.proofs.Refusals.{cases_if, NoneStands}
 pub differ : (x y : Refusal) → eqb (refusal_number x) (refusal_number y) ≡ false → x ≢ y
 differ x y apart same = eqb-false (refusal_number x) (refusal_number y) apart (ap refusal_number same)
 
-pub refused_otherwise : (r : Answer) (x y : Refusal) → r ≡ Refused x → x ≢ y → r ≢ Refused y
+pub refused_otherwise : (r : Answer) (x y : Refusal) → r ≡ Err x → x ≢ y → r ≢ Err y
 refused_otherwise r x y told other answered = other cc
 
-pub done_is_no_refusal : (r : Answer) (why : Refusal) → r ≡ Done → r ≢ Refused why
+pub done_is_no_refusal : (r : Answer) (why : Refusal) → r ≡ Ok Done → r ≢ Err why
 done_is_no_refusal r why told answered = let z : ◌≡◌ {A = ℕ} 0 1 = cc in omega arith
 
 -- none of these reasons, where it is the first that stands, is this one
@@ -26,7 +26,7 @@ abbrev pub Spared : Refusal → List Reason → Type 0
 Spared why [] = Unit {0}
 Spared why (reason ∷ others) = (reason.stands ≡ true → reason.why ≢ why) × (reason.stands ≡ false → Spared why others)
 
-pub spared : {T : Type 0} (reasons : List Reason) (why : Refusal) (r : Answer) (t u : T) {P : Type 0} → Spared why reasons → Unless reasons r t u P → (NoneStands reasons → P → r ≢ Refused why) → r ≢ Refused why
+pub spared : {T : Type 0} (reasons : List Reason) (why : Refusal) (r : Answer) (t u : T) {P : Type 0} → Spared why reasons → Unless reasons r t u P → (NoneStands reasons → P → r ≢ Err why) → r ≢ Err why
 spared [] why r t u free went obeyed = obeyed tt went
 spared (reason ∷ others) why r t u free went obeyed =
     elim (cases_if reason.stands went) [

@@ -6,7 +6,7 @@ use Rattle.frames.specs.declared.frame.Frame.{Frame}
 use Rattle.frames.specs.Samples.{silence}
 use Rattle.sinks.specs.Sink.{SinkPoints}
 use Rattle.sources.specs.Source.{SourcePoints}
-use Rattle.calls.specs.declared.answer.Answer.{Answer}
+use Rattle.calls.specs.Answers.{Answer}
 use Rattle.calls.specs.declared.call.Given.TheVariants.{Own, Another}
 use Rattle.calls.specs.declared.call.PlaybackCall.{PlaybackCall}
 use Rattle.calls.specs.declared.call.PlaybackCall.TheVariants as p_call

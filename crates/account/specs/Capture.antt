@@ -7,7 +7,7 @@
 --   kept b came, lost b came   of the frames that came, those that the ring has room for, and the rest
 --   loss kind b           the entry for frames that are thrown away, if any are unread
 -- Assumes nothing.
-use Rattle.std.specs.Prelude.{◌≡◌, ℕ, suc, ◌+◌, ◌-◌, ◌%◌, Bool, cond, not, ◌&&◌, ltb, List, [], ◌∷◌, length, take, drop, is_some, Some, None, Option, ◌==◌, nat_eq, nat_le, nat_lt, slice_set}
+use Rattle.std.specs.Prelude.{◌≡◌, ℕ, suc, ◌+◌, ◌-◌, ◌%◌, Bool, cond, not, ◌&&◌, ltb, List, [], ◌∷◌, length, take, drop, is_some, Some, None, Option, ◌==◌, nat_eq, nat_le, nat_lt, slice_set, Ok}
 use Rattle.codes.specs.declared.entry_kind.EntryKind.{EntryKind}
 use Rattle.codes.specs.declared.entry_kind.EntryKind.TheVariants as kind
 use Rattle.codes.specs.declared.refusal.Refusal.TheVariants as refusal
@@ -16,14 +16,14 @@ use Rattle.codes.specs.declared.state.State.TheVariants.{Setup, Xrun, Draining}
 use Rattle.frames.specs.declared.frame.Frame.{Frame}
 use Rattle.geometry.specs.Pointers.{area_length, place_of}
 use Rattle.sources.specs.Source.{SourcePoints, Gives}
-use Rattle.calls.specs.declared.answer.Answer.{Answer}
-use Rattle.calls.specs.declared.answer.Answer.TheVariants.{Done, Granted, Ticked, Taken}
+use Rattle.calls.specs.Answers.{Answer}
+use Rattle.calls.specs.declared.answer.Outcome.TheVariants.{Done, Granted, Ticked, Taken}
 use Rattle.calls.specs.declared.entry.Entry.{Entry}
 use Rattle.calls.specs.declared.lease_parts.LeaseParts.{LeaseParts}
 use Rattle.calls.specs.declared.lease_parts.Lending.{Lending}
 use Rattle.calls.specs.declared.verdict.CallKind.{CallKind}
 use Rattle.calls.specs.declared.verdict.CallKind.TheVariants as call
-use Rattle.calls.specs.declared.verdict.Verdict.{Verdict}
+use Rattle.calls.specs.Answers.{Verdict}
 use Rattle.calls.specs.Lending.{holds}
 use Rattle.account.specs.Areas.{area, lease_on, with_out, with_none}
 use Rattle.account.specs.CaptureBook.{Book, room}
@@ -61,7 +61,7 @@ next_lease b wanted =
     lease_on b.geometry.tag b.lending place (area_length b.geometry.buffer wanted b.unread place)
 
 pub record Begun (b : Book) (wanted : ℕ) (r : Answer) (b' : Book) : Type 0 where
-  pub answer : r ≡ Granted (next_lease b wanted)
+  pub answer : r ≡ Ok (Granted (next_lease b wanted))
   pub stream : b' ≡ lends b (with_out b.lending (next_lease b wanted))
 
 abbrev pub Begins : Book → ℕ → Answer → Book → Type 0
@@ -78,7 +78,7 @@ no_access b m l position count =
     ∷ []
 
 pub record Copied (m : List Frame) (place : ℕ) (host : List Frame) (r : Answer) (host' : List Frame) : Type 0 where
-  pub answer : r ≡ Done
+  pub answer : r ≡ Ok Done
   pub memory : host' ≡ area m place (length host)
 
 -- the host's memory is filled with frames of the area
@@ -96,7 +96,7 @@ read b n =
     record { geometry = b.geometry; state = drained b n; given_up = b.given_up; oldest = b.oldest + n; unread = b.unread - n; lending = with_none b.lending; ledger = b.ledger }
 
 pub record Committed (b : Book) (n : ℕ) (r : Answer) (b' : Book) : Type 0 where
-  pub answer : r ≡ Done
+  pub answer : r ≡ Ok Done
   pub stream : b' ≡ read b n
 
 -- refused by 10 or 4 it changes nothing; refused by 5 or 11 it ends the lease all the same
@@ -108,7 +108,7 @@ Commits b l n r b' =
 -- ---- start, pause, resume, drain
 
 pub record Turned (b : Book) (c : CallKind) (r : Answer) (b' : Book) : Type 0 where
-  pub answer : r ≡ Done
+  pub answer : r ≡ Ok Done
   pub stream : b' ≡ turned b (entered (decides b c) b.state)
 
 abbrev pub Turns : Book → CallKind → Answer → Book → Type 0
@@ -134,7 +134,7 @@ no_emptying b c es =
     ∷ []
 
 pub record Emptied (b : Book) (c : CallKind) (due : Option Entry) (es : List Entry) (r : Answer) (b' : Book) (es' : List Entry) : Type 0 where
-  pub answer : r ≡ Done
+  pub answer : r ≡ Ok Done
   pub stream : b' ≡ emptied b (entered (decides b c) b.state) due
   pub ledger : es' ≡ noted b.ledger es due
 
@@ -154,7 +154,7 @@ noted_as b n =
     record { geometry = b.geometry; state = b.state; given_up = b.given_up; oldest = b.oldest; unread = b.unread; lending = b.lending; ledger = n }
 
 pub record TookEntry (b : Book) (es : List Entry) (r : Answer) (b' : Book) : Type 0 where
-  pub answer : r ≡ Taken (oldest_of b.ledger es)
+  pub answer : r ≡ Ok (Taken (oldest_of b.ledger es))
   pub stream : b' ≡ noted_as b (with_taken b.ledger)
 
 abbrev pub Takes : Book → List Entry → Answer → Book → Type 0
@@ -192,7 +192,7 @@ pub record Captured {R : Type 0} (p : SourcePoints R) (b : Book) (source : R) (m
   pub came : List Frame
   pub came_is : came ≡ take k (p.coming source)
   pub given : Gives p source came source'
-  pub answer : r ≡ Ticked (record { frames = length (kept b came); state = after_tick b (length (kept b came)); periods = periods b.geometry.period (b.oldest + b.unread) (length (kept b came)) })
+  pub answer : r ≡ Ok (Ticked (record { frames = length (kept b came); state = after_tick b (length (kept b came)); periods = periods b.geometry.period (b.oldest + b.unread) (length (kept b came)) }))
   pub stream : b' ≡ grown b (length (kept b came)) (length (lost b came))
   pub memory : m' ≡ stored b.geometry.buffer m (b.oldest + b.unread) (kept b came)
   pub ledger : es' ≡ noted b.ledger es (overrun b (length (kept b came)) (length (lost b came)))

@@ -18,7 +18,7 @@ use Rattle.codes.specs.declared.refusal.Refusal.TheVariants as refusal
 use Rattle.frames.specs.declared.frame.Frame.{Frame}
 use Rattle.frames.specs.Samples.{silence}
 use Rattle.sources.specs.Source.{SourcePoints}
-use Rattle.calls.specs.declared.answer.Answer.{Answer}
+use Rattle.calls.specs.Answers.{Answer}
 use Rattle.calls.specs.declared.call.Given.TheVariants.{Own, Another}
 use Rattle.calls.specs.declared.call.CaptureCall.{CaptureCall}
 use Rattle.calls.specs.declared.call.CaptureCall.TheVariants.{Begin, Copy, Commit, Start, Tick, Pause, Resume, Drain, Drop, Prepare, Take}

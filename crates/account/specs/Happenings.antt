@@ -8,11 +8,11 @@
 --   copied l j x n   an obeyed copy filled n places of the host's memory from place x on, from position j of the lease's area
 --   nothing          all else, and every other refusal
 -- Assumes nothing.
-use Rattle.std.specs.Prelude.{ℕ, Bool, cond, ◌||◌, Option, ◌==◌}
+use Rattle.std.specs.Prelude.{ℕ, Bool, cond, ◌||◌, Option, ◌==◌, Ok, Err}
 use Rattle.codes.specs.declared.refusal.Refusal.{Refusal}
 use Rattle.codes.specs.Refusals.{refusal_number}
-use Rattle.calls.specs.declared.answer.Answer.{Answer}
-use Rattle.calls.specs.declared.answer.Answer.TheVariants as answer
+use Rattle.calls.specs.Answers.{Answer}
+use Rattle.calls.specs.declared.answer.Outcome.TheVariants as outcome
 use Rattle.calls.specs.declared.call.PlaybackCall.{PlaybackCall}
 use Rattle.calls.specs.declared.call.PlaybackCall.TheVariants as play
 use Rattle.calls.specs.declared.call.CaptureCall.{CaptureCall}
@@ -32,43 +32,43 @@ pub data Happening : Type 0 where
 
 -- the happening where the call was obeyed with nothing to tell
 abbrev pub if_done : Answer → Happening → Happening
-if_done answer.Done x = x
-if_done (answer.Granted l) x = nothing
-if_done (answer.Ticked t) x = nothing
-if_done (answer.Taken e) x = nothing
-if_done (answer.Refused why) x = nothing
+if_done (Ok outcome.Done) x = x
+if_done (Ok (outcome.Granted l)) x = nothing
+if_done (Ok (outcome.Ticked t)) x = nothing
+if_done (Ok (outcome.Taken e)) x = nothing
+if_done (Err why) x = nothing
 
 abbrev pub at_begin : Answer → Happening
-at_begin answer.Done = nothing
-at_begin (answer.Granted l) = granted l
-at_begin (answer.Ticked t) = nothing
-at_begin (answer.Taken e) = nothing
-at_begin (answer.Refused why) = nothing
+at_begin (Ok outcome.Done) = nothing
+at_begin (Ok (outcome.Granted l)) = granted l
+at_begin (Ok (outcome.Ticked t)) = nothing
+at_begin (Ok (outcome.Taken e)) = nothing
+at_begin (Err why) = nothing
 
 -- these refusals of a commit end its lease
 abbrev pub ends_lease : Refusal → Bool
 ends_lease why = refusal_number why == 5 || (refusal_number why == 11 || refusal_number why == 13)
 
 abbrev pub at_commit : LeaseParts → ℕ → Answer → Happening
-at_commit l n answer.Done = committed l n
-at_commit l n (answer.Granted x) = nothing
-at_commit l n (answer.Ticked t) = nothing
-at_commit l n (answer.Taken e) = nothing
-at_commit l n (answer.Refused why) = cond (ends_lease why) (given_back l) nothing
+at_commit l n (Ok outcome.Done) = committed l n
+at_commit l n (Ok (outcome.Granted x)) = nothing
+at_commit l n (Ok (outcome.Ticked t)) = nothing
+at_commit l n (Ok (outcome.Taken e)) = nothing
+at_commit l n (Err why) = cond (ends_lease why) (given_back l) nothing
 
 abbrev pub at_tick : ℕ → Answer → Happening
-at_tick k answer.Done = nothing
-at_tick k (answer.Granted l) = nothing
-at_tick k (answer.Ticked t) = ticked k t.frames
-at_tick k (answer.Taken e) = nothing
-at_tick k (answer.Refused why) = nothing
+at_tick k (Ok outcome.Done) = nothing
+at_tick k (Ok (outcome.Granted l)) = nothing
+at_tick k (Ok (outcome.Ticked t)) = ticked k t.frames
+at_tick k (Ok (outcome.Taken e)) = nothing
+at_tick k (Err why) = nothing
 
 abbrev pub at_take : Answer → Happening
-at_take answer.Done = nothing
-at_take (answer.Granted l) = nothing
-at_take (answer.Ticked t) = nothing
-at_take (answer.Taken e) = taken e
-at_take (answer.Refused why) = nothing
+at_take (Ok outcome.Done) = nothing
+at_take (Ok (outcome.Granted l)) = nothing
+at_take (Ok (outcome.Ticked t)) = nothing
+at_take (Ok (outcome.Taken e)) = taken e
+at_take (Err why) = nothing
 
 abbrev pub of_playback_call : PlaybackCall → Answer → Happening
 of_playback_call (play.Begin wanted) r = at_begin r

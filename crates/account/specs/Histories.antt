@@ -6,7 +6,7 @@
 --   Ran                these calls, tried after a past, were given these answers
 -- Assumes nothing.
 use Rattle.std.specs.Prelude.{◌≡◌, List, [], ◌∷◌, ◌++◌, map, reverse}
-use Rattle.calls.specs.declared.answer.Answer.{Answer}
+use Rattle.calls.specs.Answers.{Answer}
 
 pub record Moment (T C : Type 0) : Type 0 where
   pub before : T

@@ -6,7 +6,7 @@
 --   loss kind b           the entry for frames that are thrown away, if any wait
 --   after_tick, tick_entry   the state after a tick of k of which `went` went, and the entry that is due, if one is
 -- Assumes nothing.
-use Rattle.std.specs.Prelude.{◌≡◌, ℕ, ◌+◌, ◌-◌, ◌/◌, ◌<◌, ◌≤◌, cond, not, ◌&&◌, ltb, leb, List, [], ◌∷◌, length, take, is_some, Some, None, Option, ◌==◌, nat_eq, nat_le, nat_lt}
+use Rattle.std.specs.Prelude.{◌≡◌, ℕ, ◌+◌, ◌-◌, ◌/◌, ◌<◌, ◌≤◌, cond, not, ◌&&◌, ltb, leb, List, [], ◌∷◌, length, take, is_some, Some, None, Option, ◌==◌, nat_eq, nat_le, nat_lt, Ok}
 use Rattle.std.proofs.Math.Seq.{paste}
 use Rattle.codes.specs.declared.entry_kind.EntryKind.{EntryKind}
 use Rattle.codes.specs.declared.entry_kind.EntryKind.TheVariants as kind
@@ -18,14 +18,14 @@ use Rattle.frames.specs.Samples.{mixed_all}
 use Rattle.geometry.specs.Pointers.{area_length, place_of}
 use Rattle.sinks.specs.declared.stop.Stop.{Stop}
 use Rattle.sinks.specs.Sink.{SinkPoints, Offers, Heals}
-use Rattle.calls.specs.declared.answer.Answer.{Answer}
-use Rattle.calls.specs.declared.answer.Answer.TheVariants.{Done, Granted, Ticked, Taken}
+use Rattle.calls.specs.Answers.{Answer}
+use Rattle.calls.specs.declared.answer.Outcome.TheVariants.{Done, Granted, Ticked, Taken}
 use Rattle.calls.specs.declared.entry.Entry.{Entry}
 use Rattle.calls.specs.declared.lease_parts.LeaseParts.{LeaseParts}
 use Rattle.calls.specs.declared.lease_parts.Lending.{Lending}
 use Rattle.calls.specs.declared.verdict.CallKind.{CallKind}
 use Rattle.calls.specs.declared.verdict.CallKind.TheVariants as call
-use Rattle.calls.specs.declared.verdict.Verdict.{Verdict}
+use Rattle.calls.specs.Answers.{Verdict}
 use Rattle.calls.specs.Lending.{holds}
 use Rattle.account.specs.Areas.{area, lease_on, with_out, with_none}
 use Rattle.account.specs.Ledgers.{LedgerNumbers, is_full, noted, with_noted, with_taken, oldest_of}
@@ -62,7 +62,7 @@ next_lease b wanted =
     lease_on b.geometry.tag b.lending place (area_length b.geometry.buffer wanted (free b) place)
 
 pub record Begun (b : Book) (wanted : ℕ) (r : Answer) (b' : Book) : Type 0 where
-  pub answer : r ≡ Granted (next_lease b wanted)
+  pub answer : r ≡ Ok (Granted (next_lease b wanted))
   pub stream : b' ≡ lends b (with_out b.lending (next_lease b wanted))
 
 abbrev pub Begins : Book → ℕ → Answer → Book → Type 0
@@ -79,7 +79,7 @@ no_access b m l position count =
     ∷ []
 
 pub record Written (m : List Frame) (place : ℕ) (fs : List Frame) (r : Answer) (m' : List Frame) : Type 0 where
-  pub answer : r ≡ Done
+  pub answer : r ≡ Ok Done
   pub memory : m' ≡ paste m place fs (length fs)
 
 abbrev pub Puts : Book → List Frame → LeaseParts → ℕ → List Frame → Answer → List Frame → Type 0
@@ -101,7 +101,7 @@ moved b n =
     record { geometry = b.geometry; state = started b n; committed = b.committed + n; oldest = b.oldest; lending = with_none b.lending; ledger = b.ledger }
 
 pub record Committed (b : Book) (n : ℕ) (r : Answer) (b' : Book) : Type 0 where
-  pub answer : r ≡ Done
+  pub answer : r ≡ Ok Done
   pub stream : b' ≡ moved b n
 
 -- refused by 10 or 4 it changes nothing; refused by 5, 11 or 13 it ends the lease all the same
@@ -116,7 +116,7 @@ Commits b l n r b' =
 -- ---- start, pause, resume, drain
 
 pub record Turned (b : Book) (c : CallKind) (r : Answer) (b' : Book) : Type 0 where
-  pub answer : r ≡ Done
+  pub answer : r ≡ Ok Done
   pub stream : b' ≡ turned b (entered (decides b c) b.state)
 
 abbrev pub Turns : Book → CallKind → Answer → Book → Type 0
@@ -142,7 +142,7 @@ no_emptying b c es =
     ∷ []
 
 pub record Emptied (b : Book) (c : CallKind) (due : Option Entry) (es : List Entry) (r : Answer) (b' : Book) (es' : List Entry) : Type 0 where
-  pub answer : r ≡ Done
+  pub answer : r ≡ Ok Done
   pub stream : b' ≡ emptied b (entered (decides b c) b.state) due
   pub ledger : es' ≡ noted b.ledger es due
 
@@ -162,7 +162,7 @@ abbrev pub noted_as : Book → LedgerNumbers → Book
 noted_as b n = record { geometry = b.geometry; state = b.state; committed = b.committed; oldest = b.oldest; lending = b.lending; ledger = n }
 
 pub record TookEntry (b : Book) (es : List Entry) (r : Answer) (b' : Book) : Type 0 where
-  pub answer : r ≡ Taken (oldest_of b.ledger es)
+  pub answer : r ≡ Ok (Taken (oldest_of b.ledger es))
   pub stream : b' ≡ noted_as b (with_taken b.ledger)
 
 abbrev pub Takes : Book → List Entry → Answer → Book → Type 0
@@ -199,13 +199,13 @@ pub record Played {S : Type 0} (p : SinkPoints S) (b : Book) (sink : S) (m : Lis
   pub there : went ≤ waits b
   pub offered : Offers p sink (take went (waiting_frames b m)) sink'
   pub stopped : went < k → went < waits b → p.allowance sink' ≡ 0
-  pub answer : r ≡ Ticked (record { frames = went; state = after_tick b k went; periods = periods b.geometry.period b.oldest went })
+  pub answer : r ≡ Ok (Ticked (record { frames = went; state = after_tick b k went; periods = periods b.geometry.period b.oldest went }))
   pub stream : b' ≡ advanced b (after_tick b k went) went (tick_entry b k went (p.stop sink'))
   pub ledger : es' ≡ noted b.ledger es (tick_entry b k went (p.stop sink'))
 
 -- in a state that moves no frames nothing changes
 pub record Still {T : Type 0} (s : State) (r : Answer) (t u : T) : Type 0 where
-  pub answer : r ≡ Ticked (record { frames = 0; state = s; periods = 0 })
+  pub answer : r ≡ Ok (Ticked (record { frames = 0; state = s; periods = 0 }))
   pub same : u ≡ t
 
 abbrev pub Ticks : {S : Type 0} → SinkPoints S → Book → S → List Frame → List Entry → ℕ → Answer → Book → S → List Entry → Type 0

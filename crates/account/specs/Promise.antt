@@ -9,7 +9,7 @@
 --   GoesOn          after any past since set-up, the history goes on with these calls and these answers, and both accounts hold
 --   AlwaysAccounted   both accounts hold after every history since set-up
 -- Assumes nothing.
-use Rattle.std.specs.Prelude.{◌≡◌, ℕ, ◌+◌, ◌-◌, ◌%◌, ◌<◌, ◌≤◌, true, ◌≢◌, List, [], ◌∷◌, ◌++◌, map, length, Some, None, Option, slice_index_or}
+use Rattle.std.specs.Prelude.{◌≡◌, ℕ, ◌+◌, ◌-◌, ◌%◌, ◌<◌, ◌≤◌, true, ◌≢◌, List, [], ◌∷◌, ◌++◌, map, length, Some, None, Option, slice_index_or, Err}
 use Rattle.codes.specs.declared.entry_kind.EntryKind.TheVariants as entry
 use Rattle.codes.specs.declared.refusal.Refusal.TheVariants as refusal
 use Rattle.codes.specs.declared.state.State.TheVariants.{Xrun}
@@ -17,8 +17,7 @@ use Rattle.frames.specs.Samples.{silence}
 use Rattle.geometry.specs.Pointers.{pointer_of, playback_avail, capture_avail}
 use Rattle.sinks.specs.Sink.{SinkPoints}
 use Rattle.sources.specs.Source.{SourcePoints}
-use Rattle.calls.specs.declared.answer.Answer.{Answer}
-use Rattle.calls.specs.declared.answer.Answer.TheVariants.{Refused}
+use Rattle.calls.specs.Answers.{Answer}
 use Rattle.calls.specs.declared.call.Call.{Call}
 use Rattle.calls.specs.declared.call.Call.TheVariants.{Playback, Capture}
 use Rattle.calls.specs.declared.lease_parts.LeaseParts.{LeaseParts}
@@ -49,7 +48,7 @@ pub record PlaybackAccount {S : Type 0} (p : SinkPoints S) (start : play.Situati
   pub ticks_leave_the_memory : EachMoment (λ past m. play.kind_of m.call ≡ call.Tick → m.after.memory ≡ m.before.memory) h
   pub lost_stretches_rise : RiseFrom 0 (play.entries h end) end.stream.oldest
   pub states_mean_what_they_say : PlaybackMeans end.stream.state (length (play.waiting h)) end.stream.geometry.threshold end.stream.lending.out
-  pub no_lease_meets_a_wrong_state : EachMoment (λ past m. names_lease (play.kind_of m.call) ≡ true → m.answer ≢ Refused refusal.State) h
+  pub no_lease_meets_a_wrong_state : EachMoment (λ past m. names_lease (play.kind_of m.call) ≡ true → m.answer ≢ Err refusal.State) h
   pub counts_are_the_words : (end.stream.committed ≡ length (play.frames_committed h)) × (end.stream.committed - end.stream.oldest ≡ length (play.waiting h))
   pub avail_is_what_is_free : playback_avail end.stream.geometry.buffer end.stream.geometry.boundary (pointer_of end.stream.geometry.boundary end.stream.oldest) (pointer_of end.stream.geometry.boundary end.stream.committed) ≡ end.stream.geometry.buffer - length (play.waiting h)
 
@@ -69,7 +68,7 @@ pub record CaptureAccount {R : Type 0} (p : SourcePoints R) (start : capt.Situat
   pub thrown_away_rise : RiseFrom 0 (of_kinds (entry.Prepared ∷ entry.Dropped ∷ []) (capt.entries h end)) end.stream.oldest
   pub unread_are_the_last_given_up_unless_in_xrun : end.stream.state ≢ Xrun → (capt.unread p h ≡ numbers end.stream.oldest (length (capt.unread p h))) × (end.stream.oldest + length (capt.unread p h) ≡ length (capt.given_up p h))
   pub states_mean_what_they_say : CaptureMeans end.stream.state (length (capt.unread p h)) end.stream.geometry.buffer end.stream.lending.out
-  pub no_lease_meets_a_wrong_state : EachMoment (λ past m. names_lease (capt.kind_of m.call) ≡ true → m.answer ≢ Refused refusal.State) h
+  pub no_lease_meets_a_wrong_state : EachMoment (λ past m. names_lease (capt.kind_of m.call) ≡ true → m.answer ≢ Err refusal.State) h
   pub counts_are_the_words : (end.stream.given_up ≡ length (capt.given_up p h)) × (end.stream.unread ≡ length (capt.unread p h))
   pub avail_is_what_is_unread : capture_avail end.stream.geometry.boundary (pointer_of end.stream.geometry.boundary (end.stream.oldest + end.stream.unread)) (pointer_of end.stream.geometry.boundary end.stream.oldest) ≡ length (capt.unread p h)
 

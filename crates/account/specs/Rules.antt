@@ -5,10 +5,9 @@
 --   Unless reasons r left u obeyed   the first reason that stands refuses the call and leaves `left`; where none stands, the
 --                       call is obeyed
 -- Assumes nothing.
-use Rattle.std.specs.Prelude.{◌≡◌, Bool, true, false, cond, List, [], ◌∷◌, Some, None, Option}
+use Rattle.std.specs.Prelude.{◌≡◌, Bool, true, false, cond, List, [], ◌∷◌, Some, None, Option, Err}
 use Rattle.codes.specs.declared.refusal.Refusal.{Refusal}
-use Rattle.calls.specs.declared.answer.Answer.{Answer}
-use Rattle.calls.specs.declared.answer.Answer.TheVariants.{Refused}
+use Rattle.calls.specs.Answers.{Answer}
 
 infix 70 ◌⇒◌
 pub record Reason : Type 0 where
@@ -23,7 +22,7 @@ first_of [] = None
 first_of (reason ∷ others) = cond reason.stands (Some reason.why) (first_of others)
 
 abbrev pub Refuses : {T : Type 0} → Refusal → Answer → T → T → Type 0
-Refuses why r left u = (r ≡ Refused why) × (u ≡ left)
+Refuses why r left u = (r ≡ Err why) × (u ≡ left)
 
 abbrev pub If : Bool → Type 0 → Type 0 → Type 0
 If true a b = a

@@ -1,1 +1,3 @@
+pub mod Reading
 pub mod Writing
+pub mod Failures

@@ -1,75 +1,76 @@
 // Answers written as eleven numbers: kind, six numbers, and how the stream that was called stands.
-use crate::writing::{has_room, put_number};
-use calls::answer::Answer;
+use crate::writing::Writer;
+use calls::answer::{Answer, Outcome};
 use capture::capture::Capture;
 use playback::playback::Playback;
 
 // The bytes of an answer.
 pub const ANSWER: usize = 44;
 
+// How a stream stands: its state, its two pointers, and what is available.
+#[derive(Clone, Copy)]
+pub struct Standing([u32; 4]);
+
+// A trait over both streams would have to name the four questions once more for each, and be no shorter.
+impl From<&Playback> for Standing {
+    fn from(stream: &Playback) -> Standing {
+        Standing([
+            u32::from(stream.state()),
+            stream.application(),
+            stream.hardware(),
+            stream.avail(),
+        ])
+    }
+}
+
+impl From<&Capture> for Standing {
+    fn from(stream: &Capture) -> Standing {
+        Standing([
+            u32::from(stream.state()),
+            stream.application(),
+            stream.hardware(),
+            stream.avail(),
+        ])
+    }
+}
+
 fn numbers_of(answer: Answer) -> [u32; 7] {
     match answer {
-        Answer::Done => [0, 0, 0, 0, 0, 0, 0],
-        Answer::Granted(lease) => [1, lease.tag, lease.number, lease.place, lease.length, 0, 0],
-        Answer::Ticked(ticked) => [
+        Ok(Outcome::Done) => [0, 0, 0, 0, 0, 0, 0],
+        Ok(Outcome::Granted(lease)) => [
+            1,
+            lease.tag,
+            lease.number,
+            lease.place,
+            lease.length,
+            0,
+            0,
+        ],
+        Ok(Outcome::Ticked(ticked)) => [
             2,
             ticked.frames,
-            ticked.state.number(),
+            u32::from(ticked.state),
             ticked.periods,
             0,
             0,
             0,
         ],
-        Answer::Taken(None) => [3, 0, 0, 0, 0, 0, 0],
-        Answer::Taken(Some(entry)) => [
+        Ok(Outcome::Taken(None)) => [3, 0, 0, 0, 0, 0, 0],
+        Ok(Outcome::Taken(Some(entry))) => [
             4,
-            entry.kind.number(),
+            u32::from(entry.kind),
             entry.first,
             entry.lost,
             entry.missed,
             entry.cause,
-            entry.depth as u32,
+            u32::from(entry.depth),
         ],
-        Answer::Refused(why) => [5, why.number(), 0, 0, 0, 0, 0],
+        Err(why) => [5, u32::from(why), 0, 0, 0, 0, 0],
     }
 }
 
-fn put_all(out: &mut [u8], at: usize, numbers: &[u32]) {
-    let mut place = at;
-    for n in numbers {
-        let _ = put_number(out, place, *n);
-        place = place.saturating_add(4);
-    }
-}
-
-// Writes an answer and how the stream stands; false where there is no room for it.
-pub fn put_answer(
-    out: &mut [u8],
-    at: usize,
-    answer: Answer,
-    capture_called: bool,
-    playback: &Playback,
-    capture: &Capture,
-) -> bool {
-    if !has_room(out, at, ANSWER) {
-        return false;
-    }
-    let stands = if capture_called {
-        [
-            capture.state().number(),
-            capture.application(),
-            capture.hardware(),
-            capture.avail(),
-        ]
-    } else {
-        [
-            playback.state().number(),
-            playback.application(),
-            playback.hardware(),
-            playback.avail(),
-        ]
-    };
-    put_all(out, at, &numbers_of(answer));
-    put_all(out, at.saturating_add(28), &stands);
-    true
+// Writes an answer and how the stream stands; none where there is no room for them.
+pub fn put_answer(writer: &mut Writer<'_>, answer: Answer, standing: Standing) -> Option<()> {
+    writer.put_all(&numbers_of(answer))?;
+    writer.put_all(&standing.0)
 }

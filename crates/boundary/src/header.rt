@@ -1,5 +1,7 @@
 // The head of a script: what both streams are set up with.
-use crate::reading::Reader;
+use crate::failure::Failure;
+use crate::reading::{FromBytes, Reader};
+use crate::shape::Shape;
 use codes::refusal::Refusal;
 use frames::factor::Factor;
 use frames::taps::TapSet;
@@ -14,18 +16,19 @@ const MOST: u32 = 65536;
 struct Numbers {
     buffer: u32,
     period: u32,
+    // 0 where it is not set: the byte form has no room for a none
     threshold: u32,
     ledger: u32,
     tag: u32,
 }
 
-// The numbers of a header, not yet checked.
+// The numbers of a header, not yet checked. Taps and marks come as the script has them, a count before a fixed number of places.
 #[derive(Clone, Copy)]
-pub struct Header {
+struct Header {
     playback: Numbers,
     capture: Numbers,
-    shape: u8,
-    room: u32,
+    shape: Shape,
+    room: usize,
     gain: u16,
     factor: u32,
     tap_count: u8,
@@ -35,7 +38,7 @@ pub struct Header {
     frames: u32,
     sample: i16,
     step: i16,
-    host: u32,
+    host: usize,
 }
 
 // What the streams are made from.
@@ -43,7 +46,7 @@ pub struct Header {
 pub struct Setup {
     pub playback: Geometry,
     pub capture: Geometry,
-    pub shape: u8,
+    pub shape: Shape,
     pub room: usize,
     pub gain: u16,
     pub factor: Factor,
@@ -55,98 +58,95 @@ pub struct Setup {
     pub host: usize,
 }
 
-fn read_numbers(reader: &mut Reader<'_>) -> Option<Numbers> {
-    Some(Numbers {
-        buffer: reader.number()?,
-        period: reader.number()?,
-        threshold: reader.number()?,
-        ledger: reader.number()?,
-        tag: reader.number()?,
-    })
-}
-
-fn read_taps(reader: &mut Reader<'_>) -> Option<[i16; 32]> {
-    let mut taps = [0; 32];
-    for i in 0..32 {
-        taps[i] = reader.half()?;
+impl FromBytes for Numbers {
+    fn read(reader: &mut Reader<'_>) -> Option<Numbers> {
+        Some(Numbers {
+            buffer: reader.read()?,
+            period: reader.read()?,
+            threshold: reader.read()?,
+            ledger: reader.read()?,
+            tag: reader.read()?,
+        })
     }
-    Some(taps)
 }
 
-fn read_marks(reader: &mut Reader<'_>) -> Option<[u32; 16]> {
-    let mut marks = [0; 16];
-    for i in 0..16 {
-        marks[i] = reader.number()?;
+// As many places as a script has for taps or marks.
+fn read_places<T: FromBytes + Default, const N: usize>(reader: &mut Reader<'_>) -> Option<[T; N]> {
+    let mut places = [T::default(); N];
+    reader.fill(&mut places)?;
+    Some(places)
+}
+
+// A count of frames of memory; none where it is more than there is.
+fn read_room(reader: &mut Reader<'_>) -> Option<usize> {
+    let frames: u32 = reader.read()?;
+    (frames <= MOST).then_some(frames as usize)
+}
+
+impl FromBytes for Header {
+    fn read(reader: &mut Reader<'_>) -> Option<Header> {
+        Some(Header {
+            playback: reader.read()?,
+            capture: reader.read()?,
+            shape: reader.read()?,
+            room: read_room(reader)?,
+            gain: u16::try_from(reader.read::<u32>()?).ok()?,
+            factor: reader.read()?,
+            tap_count: reader.read()?,
+            taps: read_places(reader)?,
+            mark_count: reader.read()?,
+            marks: read_places(reader)?,
+            frames: reader.read()?,
+            sample: reader.read()?,
+            step: reader.read()?,
+            host: read_room(reader)?,
+        })
     }
-    Some(marks)
 }
 
-// Reads a header; none where it is too short or asks for more than there is.
-pub fn read_header(reader: &mut Reader<'_>) -> Option<Header> {
-    let header = Header {
-        playback: read_numbers(reader)?,
-        capture: read_numbers(reader)?,
-        shape: reader.byte()?,
-        room: reader.number()?,
-        gain: u16::try_from(reader.number()?).ok()?,
-        factor: reader.number()?,
-        tap_count: reader.byte()?,
-        taps: read_taps(reader)?,
-        mark_count: reader.byte()?,
-        marks: read_marks(reader)?,
-        frames: reader.number()?,
-        sample: reader.half()?,
-        step: reader.half()?,
-        host: reader.number()?,
-    };
-    if header.shape > 7 || header.room > MOST || header.host > MOST {
-        return None;
+impl TryFrom<Numbers> for Geometry {
+    type Error = Refusal;
+
+    fn try_from(numbers: Numbers) -> Result<Geometry, Refusal> {
+        let threshold = (numbers.threshold > 0).then_some(numbers.threshold);
+        Geometry::check(
+            numbers.buffer,
+            numbers.period,
+            threshold,
+            numbers.ledger,
+            numbers.tag,
+        )
     }
-    Some(header)
-}
-
-fn check_geometry(numbers: Numbers) -> Result<Geometry, Refusal> {
-    let threshold = if numbers.threshold == 0 {
-        None
-    } else {
-        Some(numbers.threshold)
-    };
-    Geometry::check(
-        numbers.buffer,
-        numbers.period,
-        threshold,
-        numbers.ledger,
-        numbers.tag,
-    )
 }
 
 fn check_marks(marks: &[u32], count: u8) -> Result<Marks, Refusal> {
-    let count = count as usize;
-    if count > marks.len() {
-        return Err(Refusal::Layer);
-    }
-    Marks::check(&marks[..count])
+    Marks::check(marks.get(..count as usize).ok_or(Refusal::Layer)?)
 }
 
 // Checks every number: both geometries, then the taps, the factor and the marks.
-pub fn check_header(header: Header) -> Result<Setup, Refusal> {
-    let playback = check_geometry(header.playback)?;
-    let capture = check_geometry(header.capture)?;
-    let taps = TapSet::check(header.taps, header.tap_count as usize)?;
-    let factor = Factor::check(header.factor)?;
-    let marks = check_marks(&header.marks, header.mark_count)?;
-    Ok(Setup {
-        playback,
-        capture,
-        shape: header.shape,
-        room: header.room as usize,
-        gain: header.gain,
-        factor,
-        taps,
-        marks,
-        frames: header.frames,
-        sample: header.sample,
-        step: header.step,
-        host: header.host as usize,
-    })
+impl TryFrom<Header> for Setup {
+    type Error = Refusal;
+
+    fn try_from(header: Header) -> Result<Setup, Refusal> {
+        Ok(Setup {
+            playback: Geometry::try_from(header.playback)?,
+            capture: Geometry::try_from(header.capture)?,
+            taps: TapSet::check(header.taps, header.tap_count as usize)?,
+            factor: Factor::check(header.factor)?,
+            marks: check_marks(&header.marks, header.mark_count)?,
+            shape: header.shape,
+            room: header.room,
+            gain: header.gain,
+            frames: header.frames,
+            sample: header.sample,
+            step: header.step,
+            host: header.host,
+        })
+    }
+}
+
+// Reads a header whole, and then checks its numbers.
+pub fn read_setup(reader: &mut Reader<'_>) -> Result<Setup, Failure> {
+    let header: Header = reader.read().ok_or(Failure::NotDecoded)?;
+    Ok(Setup::try_from(header)?)
 }

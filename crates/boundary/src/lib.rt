@@ -4,22 +4,27 @@
 
 mod answers;
 mod decoding;
+mod failure;
 mod header;
 mod piles;
 mod reading;
 mod recordings;
 mod running;
 mod scripts;
+mod shape;
 mod writing;
 
+use crate::failure::Failure;
 use crate::recordings::{capture_all, play_all};
-use crate::scripts::{put_status, run_script};
+use crate::scripts::run_script;
 use std::alloc::Global;
 
-// What `zagorchard_play` and `zagorchard_capture` return where there is no result.
-const REFUSED: u64 = 18_446_744_073_709_551_615;
+// What `zagorchard_play` and `zagorchard_capture` return where there is no result: C knows no Option.
+const REFUSED: u64 = u64::MAX;
 
-const NO_MEMORY: u32 = 102;
+fn frames_or_refused(ended: Result<usize, Failure>) -> u64 {
+    ended.map_or(REFUSED, |frames| frames as u64)
+}
 
 // Tries the calls of a script on both streams, and writes what they answered.
 #[unsafe(no_mangle)]
@@ -27,10 +32,7 @@ pub extern "C" fn zagorchard_calls(heap: Global, script: &[u8], out: &mut [u8]) 
     if out.len() < 8 {
         return 0;
     }
-    match run_script(heap, script, out) {
-        Ok(written) => written as u64,
-        Err(_) => put_status(out, NO_MEMORY) as u64,
-    }
+    run_script(heap, script, out) as u64
 }
 
 // Plays a whole recording through a playback stream, and writes what was heard.
@@ -44,10 +46,7 @@ pub extern "C" fn zagorchard_play(
     recording: &[u8],
     out: &mut [u8],
 ) -> u64 {
-    match play_all(heap, buffer, gain, keep, taps, recording, out) {
-        Ok(Some(heard)) => heard as u64,
-        _ => REFUSED,
-    }
+    frames_or_refused(play_all(heap, buffer, gain, keep, taps, recording, out))
 }
 
 // Captures a whole recording through a capture stream, and writes what was read.
@@ -58,10 +57,7 @@ pub extern "C" fn zagorchard_capture(
     recording: &[u8],
     out: &mut [u8],
 ) -> u64 {
-    match capture_all(heap, buffer, recording, out) {
-        Ok(Some(read)) => read as u64,
-        _ => REFUSED,
-    }
+    frames_or_refused(capture_all(heap, buffer, recording, out))
 }
 
 #[cfg(test)]
@@ -135,7 +131,7 @@ mod tests {
         push_call(&mut script, &[6, 0, 0], &[3])?;
         push_call(&mut script, &[12, 0], &[])?;
         let mut out = vec![in heap; 0; 500]?;
-        assert_eq!(rt; run_script(heap, &script, &mut out)?, 432);
+        assert_eq!(rt; run_script(heap, &script, &mut out), 432);
         let wanted = [
             0, 9, // status, calls
             0, 0, 0, 0, 0, 0, 0, 2, 0, 0, 8, // prepare
@@ -151,7 +147,7 @@ mod tests {
         ];
         let mut reader = Reader::new(&out);
         for n in wanted {
-            assert_eq!(rt; reader.number(), Some(n));
+            assert_eq!(rt; reader.read::<u32>(), Some(n));
         }
         Ok(())
     }
@@ -162,10 +158,10 @@ mod tests {
         let mut script = header(heap)?;
         push_call(&mut script, &[255], &[])?;
         let mut out = vec![in heap; 0; 500]?;
-        let _ = run_script(heap, &script, &mut out)?;
+        let _ = run_script(heap, &script, &mut out);
         let mut reader = Reader::new(&out);
-        assert_eq!(rt; reader.number(), Some(100));
-        assert_eq!(rt; reader.number(), Some(0));
+        assert_eq!(rt; reader.read::<u32>(), Some(100));
+        assert_eq!(rt; reader.read::<u32>(), Some(0));
         Ok(())
     }
 
@@ -174,11 +170,11 @@ mod tests {
         let heap = rt.alloc();
         let mut out = vec![in heap; 0; 40]?;
         // One tap of 32767/32768 leaves small samples as they are.
-        let heard = play_all(heap, 4, 256, 2, &[255, 127], &recording(heap)?, &mut out)?;
-        assert_eq!(rt; heard, Some(5));
+        let heard = play_all(heap, 4, 256, 2, &[255, 127], &recording(heap)?, &mut out);
+        assert_eq!(rt; heard, Ok(5));
         let mut reader = Reader::new(&out);
         for n in [1, 3, 5, 7, 9, 0] {
-            assert_eq!(rt; reader.number(), Some(n));
+            assert_eq!(rt; reader.read::<u32>(), Some(n));
         }
         Ok(())
     }
@@ -188,10 +184,10 @@ mod tests {
         let heap = rt.alloc();
         let bytes = recording(heap)?;
         let mut out = vec![in heap; 0; 40]?;
-        assert_eq!(rt; capture_all(heap, 4, &bytes, &mut out)?, Some(10));
+        assert_eq!(rt; capture_all(heap, 4, &bytes, &mut out), Ok(10));
         let mut reader = Reader::new(&out);
         for n in [1, 2, 3, 4, 5, 6, 7, 8, 9, 10] {
-            assert_eq!(rt; reader.number(), Some(n));
+            assert_eq!(rt; reader.read::<u32>(), Some(n));
         }
         Ok(())
     }

@@ -1,7 +1,6 @@
-// What a script's calls do to a pile, and what its tape has heard.
+// Piles that a script is played onto, and what their tapes have heard.
 use crate::header::Setup;
 use crate::reading::Reader;
-use crate::running::{Ran, SILENCE, run};
 use frames::frame::Frame;
 use sinks::byte_tape::ByteTape;
 use sinks::fault::Fault;
@@ -9,209 +8,65 @@ use sinks::fir::Fir;
 use sinks::frame_tape::FrameTape;
 use sinks::gain::Gain;
 use sinks::keep::Keep;
+use sinks::layer::Layer;
+use sinks::sink::Sink;
 use std::alloc::{AllocError, Global};
 
-// How the script ended, and the frames heard.
-#[derive(Drop)]
-pub struct Heard {
-    pub ran: Ran,
-    pub frames: Vec<Frame>,
+// A tape, or a layer over a pile. It can be taken apart for the frames that its tape has heard.
+pub trait Pile: Sink + Drop {
+    fn heard(self, heap: Global) -> Result<Vec<Frame>, AllocError>;
 }
 
-// The frames that a byte tape has heard.
-fn bytes_heard(heap: Global, tape: ByteTape) -> Result<Vec<Frame>, AllocError> {
-    let count = tape.count();
-    let bytes = tape.into_memory();
-    let mut frames = vec![in heap; SILENCE; count]?;
-    let mut reader = Reader::new(&bytes);
-    let _ = reader.fill(&mut frames);
-    Ok(frames)
+impl Pile for ByteTape {
+    fn heard(self, heap: Global) -> Result<Vec<Frame>, AllocError> {
+        let mut frames = vec![in heap; Frame::default(); self.count()]?;
+        let bytes = self.into_memory();
+        let _ = Reader::new(&bytes).fill(&mut frames);
+        Ok(frames)
+    }
 }
 
-// The frames that a frame tape has heard.
-fn frames_heard(tape: FrameTape) -> Vec<Frame> {
-    let count = tape.count();
-    let mut frames = tape.into_memory();
-    frames.truncate(count);
-    frames
+impl Pile for FrameTape {
+    fn heard(self, _heap: Global) -> Result<Vec<Frame>, AllocError> {
+        let count = self.count();
+        let mut frames = self.into_memory();
+        frames.truncate(count);
+        Ok(frames)
+    }
 }
 
-// Byte tape.
-fn plain_bytes(
-    heap: Global,
-    setup: &Setup,
-    script: &mut Reader<'_>,
-    most: usize,
-    host: &mut [Frame],
-    out: &mut [u8],
-) -> Result<Heard, AllocError> {
-    let tape = ByteTape::new(vec![in heap; 0; setup.room.saturating_mul(4)]?);
-    let mut pile = tape;
-    let ran = run(heap, setup, &mut pile, script, most, host, out)?;
-    Ok(Heard {
-        ran,
-        frames: bytes_heard(heap, pile)?,
-    })
+impl<D: Pile, E: Drop> Pile for Layer<D, E>
+where
+    Layer<D, E>: Sink,
+{
+    fn heard(self, heap: Global) -> Result<Vec<Frame>, AllocError> {
+        self.into_below().heard(heap)
+    }
 }
 
-// Frame tape.
-fn plain_frames(
-    heap: Global,
-    setup: &Setup,
-    script: &mut Reader<'_>,
-    most: usize,
-    host: &mut [Frame],
-    out: &mut [u8],
-) -> Result<Heard, AllocError> {
-    let tape = FrameTape::new(vec![in heap; SILENCE; setup.room]?);
-    let mut pile = tape;
-    let ran = run(heap, setup, &mut pile, script, most, host, out)?;
-    Ok(Heard {
-        ran,
-        frames: frames_heard(pile),
-    })
-}
+// The tapes and the layers that a setup asks for.
+impl Setup {
+    pub fn byte_tape(&self, heap: Global) -> Result<ByteTape, AllocError> {
+        Ok(ByteTape::new(vec![in heap; 0; self.room.saturating_mul(4)]?))
+    }
 
-// Fault over byte tape.
-fn fault_bytes(
-    heap: Global,
-    setup: &Setup,
-    script: &mut Reader<'_>,
-    most: usize,
-    host: &mut [Frame],
-    out: &mut [u8],
-) -> Result<Heard, AllocError> {
-    let tape = ByteTape::new(vec![in heap; 0; setup.room.saturating_mul(4)]?);
-    let mut pile = Fault::new(tape, setup.marks);
-    let ran = run(heap, setup, &mut pile, script, most, host, out)?;
-    Ok(Heard {
-        ran,
-        frames: bytes_heard(heap, pile.into_below())?,
-    })
-}
+    pub fn frame_tape(&self, heap: Global) -> Result<FrameTape, AllocError> {
+        Ok(FrameTape::new(vec![in heap; Frame::default(); self.room]?))
+    }
 
-// Gain over fault over frame tape.
-fn gain_fault_frames(
-    heap: Global,
-    setup: &Setup,
-    script: &mut Reader<'_>,
-    most: usize,
-    host: &mut [Frame],
-    out: &mut [u8],
-) -> Result<Heard, AllocError> {
-    let tape = FrameTape::new(vec![in heap; SILENCE; setup.room]?);
-    let mut pile = Gain::new(Fault::new(tape, setup.marks), setup.gain);
-    let ran = run(heap, setup, &mut pile, script, most, host, out)?;
-    Ok(Heard {
-        ran,
-        frames: frames_heard(pile.into_below().into_below()),
-    })
-}
+    pub fn fault<D: Pile>(&self, below: D) -> Fault<D> {
+        Fault::new(below, self.marks)
+    }
 
-// Filter over gain over fault over byte tape.
-fn fir_gain_fault_bytes(
-    heap: Global,
-    setup: &Setup,
-    script: &mut Reader<'_>,
-    most: usize,
-    host: &mut [Frame],
-    out: &mut [u8],
-) -> Result<Heard, AllocError> {
-    let tape = ByteTape::new(vec![in heap; 0; setup.room.saturating_mul(4)]?);
-    let mut pile = Fir::new(
-        Gain::new(Fault::new(tape, setup.marks), setup.gain),
-        setup.taps,
-    );
-    let ran = run(heap, setup, &mut pile, script, most, host, out)?;
-    Ok(Heard {
-        ran,
-        frames: bytes_heard(heap, pile.into_below().into_below().into_below())?,
-    })
-}
+    pub fn gain<D: Pile>(&self, below: D) -> Gain<D> {
+        Gain::new(below, self.gain)
+    }
 
-// Keep over filter over gain over fault over byte tape.
-fn keep_fir_gain_fault_bytes(
-    heap: Global,
-    setup: &Setup,
-    script: &mut Reader<'_>,
-    most: usize,
-    host: &mut [Frame],
-    out: &mut [u8],
-) -> Result<Heard, AllocError> {
-    let tape = ByteTape::new(vec![in heap; 0; setup.room.saturating_mul(4)]?);
-    let mut pile = Keep::new(
-        Fir::new(
-            Gain::new(Fault::new(tape, setup.marks), setup.gain),
-            setup.taps,
-        ),
-        setup.factor,
-    );
-    let ran = run(heap, setup, &mut pile, script, most, host, out)?;
-    Ok(Heard {
-        ran,
-        frames: bytes_heard(
-            heap,
-            pile.into_below().into_below().into_below().into_below(),
-        )?,
-    })
-}
+    pub fn filter<D: Pile>(&self, below: D) -> Fir<D> {
+        Fir::new(below, self.taps)
+    }
 
-// Fault over keep over byte tape.
-fn fault_keep_bytes(
-    heap: Global,
-    setup: &Setup,
-    script: &mut Reader<'_>,
-    most: usize,
-    host: &mut [Frame],
-    out: &mut [u8],
-) -> Result<Heard, AllocError> {
-    let tape = ByteTape::new(vec![in heap; 0; setup.room.saturating_mul(4)]?);
-    let mut pile = Fault::new(Keep::new(tape, setup.factor), setup.marks);
-    let ran = run(heap, setup, &mut pile, script, most, host, out)?;
-    Ok(Heard {
-        ran,
-        frames: bytes_heard(heap, pile.into_below().into_below())?,
-    })
-}
-
-// Gain over keep over filter over frame tape.
-fn gain_keep_fir_frames(
-    heap: Global,
-    setup: &Setup,
-    script: &mut Reader<'_>,
-    most: usize,
-    host: &mut [Frame],
-    out: &mut [u8],
-) -> Result<Heard, AllocError> {
-    let tape = FrameTape::new(vec![in heap; SILENCE; setup.room]?);
-    let mut pile = Gain::new(
-        Keep::new(Fir::new(tape, setup.taps), setup.factor),
-        setup.gain,
-    );
-    let ran = run(heap, setup, &mut pile, script, most, host, out)?;
-    Ok(Heard {
-        ran,
-        frames: frames_heard(pile.into_below().into_below().into_below()),
-    })
-}
-
-// The pile of the shape that the setup asks for.
-pub fn run_shape(
-    heap: Global,
-    setup: &Setup,
-    script: &mut Reader<'_>,
-    most: usize,
-    host: &mut [Frame],
-    out: &mut [u8],
-) -> Result<Heard, AllocError> {
-    match setup.shape {
-        0 => plain_bytes(heap, setup, script, most, host, out),
-        1 => plain_frames(heap, setup, script, most, host, out),
-        2 => fault_bytes(heap, setup, script, most, host, out),
-        3 => gain_fault_frames(heap, setup, script, most, host, out),
-        4 => fir_gain_fault_bytes(heap, setup, script, most, host, out),
-        5 => keep_fir_gain_fault_bytes(heap, setup, script, most, host, out),
-        6 => fault_keep_bytes(heap, setup, script, most, host, out),
-        _ => gain_keep_fir_frames(heap, setup, script, most, host, out),
+    pub fn keep<D: Pile>(&self, below: D) -> Keep<D> {
+        Keep::new(below, self.factor)
     }
 }

@@ -1,58 +1,72 @@
-// Numbers read from bytes, low byte first.
+// Numbers and frames read from bytes, low byte first.
+ghost use Rattle.boundary.specs.Reading.{Takes};
+
 use frames::frame::Frame;
 
+// The bytes that are still to be read.
 #[derive(Drop)]
 pub struct Reader<'a> {
-    bytes: &'a [u8],
-    at: usize,
+    left: &'a [u8],
+}
+
+// What has a form in bytes; none where too few bytes are left, or they are no such form.
+pub trait FromBytes: Copy {
+    fn read(reader: &mut Reader<'_>) -> Option<Self>;
 }
 
 impl<'a> Reader<'a> {
     pub fn new(bytes: &'a [u8]) -> Reader<'a> {
-        Reader { bytes, at: 0 }
+        Reader { left: bytes }
     }
 
-    // Whether nothing is left.
-    pub fn at_end(&self) -> bool {
-        self.at >= self.bytes.len()
+    // How many bytes are left.
+    pub fn left(&self) -> usize {
+        self.left.len()
     }
 
-    pub fn byte(&mut self) -> Option<u8> {
-        let byte = self.bytes.get(self.at).copied()?;
-        self.at = self.at.saturating_add(1);
+    // The next N bytes; none where fewer are left, and those stay.
+    fn take<const N: usize>(&mut self) -> Option<[u8; N]>
+        ensures { Takes N self.old.left.now result self.new.left.now }
+    {
+        let (bytes, left) = self.left.split_first_chunk::<N>()?;
+        self.left = left;
+        Some(*bytes)
+    }
+
+    pub fn read<T: FromBytes>(&mut self) -> Option<T> {
+        T::read(self)
+    }
+
+    // Reads into each place; none where the bytes end before.
+    pub fn fill<T: FromBytes>(&mut self, places: &mut [T]) -> Option<()> {
+        for place in places.iter_mut() {
+            *place = self.read()?;
+        }
+        Some(())
+    }
+}
+
+impl FromBytes for u8 {
+    fn read(reader: &mut Reader<'_>) -> Option<u8> {
+        let [byte] = reader.take::<1>()?;
         Some(byte)
     }
+}
 
-    pub fn half(&mut self) -> Option<i16> {
-        let low = self.byte()?;
-        let high = self.byte()?;
-        Some(i16::from_le_bytes([low, high]))
+impl FromBytes for i16 {
+    fn read(reader: &mut Reader<'_>) -> Option<i16> {
+        reader.take().map(i16::from_le_bytes)
     }
+}
 
-    pub fn number(&mut self) -> Option<u32> {
-        let a = self.byte()?;
-        let b = self.byte()?;
-        let c = self.byte()?;
-        let d = self.byte()?;
-        Some(u32::from_le_bytes([a, b, c, d]))
+impl FromBytes for u32 {
+    fn read(reader: &mut Reader<'_>) -> Option<u32> {
+        reader.take().map(u32::from_le_bytes)
     }
+}
 
-    pub fn frame(&mut self) -> Option<Frame> {
-        let a = self.byte()?;
-        let b = self.byte()?;
-        let c = self.byte()?;
-        let d = self.byte()?;
-        Some(Frame::from_bytes([a, b, c, d]))
-    }
-
-    // Reads as many frames as the memory has places; false where too few bytes are left.
-    pub fn fill(&mut self, memory: &mut [Frame]) -> bool {
-        for i in 0..memory.len() {
-            let Some(frame) = self.frame() else {
-                return false;
-            };
-            memory[i] = frame;
-        }
-        true
+impl FromBytes for Frame {
+    fn read(reader: &mut Reader<'_>) -> Option<Frame> {
+        reader.take().map(Frame::from)
     }
 }

@@ -1,7 +1,8 @@
 // Whole recordings through a stream.
+use crate::failure::Failure;
 use crate::reading::Reader;
-use crate::running::{NO_ENTRY, SILENCE};
-use crate::writing::put_frames;
+use crate::running::NO_ENTRY;
+use crate::writing::Writer;
 use calls::entry::Entry;
 use capture::capture::Capture;
 use codes::refusal::Refusal;
@@ -21,23 +22,33 @@ use std::alloc::{AllocError, Global};
 // Gain at the top, then the filter, then keep, then the tape.
 type Pile = Gain<Fir<Keep<ByteTape>>>;
 
-fn tap_set(bytes: &[u8]) -> Result<TapSet, Refusal> {
-    let mut taps = [0; 32];
-    let mut reader = Reader::new(bytes);
-    let count = bytes.len() / 2;
-    for i in 0..count.min(32) {
-        taps[i] = match reader.half() {
-            Some(tap) => tap,
-            None => 0,
-        };
+// What is lent to a stream, and room for the frames of one lease.
+#[derive(Drop)]
+struct Lent {
+    memory: Vec<Frame>,
+    ledger: [Entry; 1],
+    scratch: Vec<Frame>,
+}
+
+impl Lent {
+    fn new(heap: Global, buffer: u32) -> Result<Lent, AllocError> {
+        Ok(Lent {
+            memory: vec![in heap; Frame::default(); buffer as usize]?,
+            ledger: [NO_ENTRY],
+            scratch: vec![in heap; Frame::default(); buffer as usize]?,
+        })
     }
+}
+
+fn tap_set(bytes: &[u8]) -> Result<TapSet, Refusal> {
+    let mut taps = [0i16; 32];
+    let count = bytes.len() / 2;
+    let _ = Reader::new(bytes).fill(&mut taps[..count.min(32)]);
     TapSet::check(taps, count)
 }
 
 fn build(memory: Vec<u8>, gain: u32, keep: u32, taps: &[u8]) -> Result<Pile, Refusal> {
-    let Ok(gain) = u16::try_from(gain) else {
-        return Err(Refusal::Layer);
-    };
+    let gain = u16::try_from(gain).map_err(|_| Refusal::Layer)?;
     let taps = tap_set(taps)?;
     let factor = Factor::check(keep)?;
     Ok(Gain::new(
@@ -47,58 +58,42 @@ fn build(memory: Vec<u8>, gain: u32, keep: u32, taps: &[u8]) -> Result<Pile, Ref
 }
 
 // Leases an area and commits the frames into it; tells how many.
-fn commit(
-    stream: &mut Playback,
-    memory: &mut [Frame],
-    reader: &mut Reader<'_>,
-    scratch: &mut [Frame],
-    wanted: u32,
-) -> usize {
+fn commit(stream: &mut Playback, lent: &mut Lent, reader: &mut Reader<'_>, wanted: u32) -> usize {
     let Ok(lease) = stream.begin(wanted) else {
         return 0;
     };
-    let length = lease.parts().length;
-    let n = (length as usize).min(scratch.len());
-    let _ = reader.fill(&mut scratch[..n]);
-    let _ = stream.put(memory, &lease, 0, &scratch[..n]);
-    match stream.commit(lease, n as u32) {
-        Ok(()) => n,
-        Err(_) => 0,
-    }
+    let n = (lease.parts().length as usize).min(lent.scratch.len());
+    let frames = &mut lent.scratch[..n];
+    let _ = reader.fill(frames);
+    let _ = stream.put(&mut lent.memory, &lease, 0, frames);
+    stream.commit(lease, n as u32).map_or(0, |()| n)
 }
 
 // Commits and plays by turns, always leaving a frame to wait, until the recording is committed; then plays the rest. It ends
 // where the sink stops.
-fn feed<S: Sink>(
-    stream: &mut Playback,
-    sink: &mut S,
-    memory: &mut [Frame],
-    ledger: &mut [Entry],
-    scratch: &mut [Frame],
-    recording: &[u8],
-) {
+fn feed<S: Sink>(stream: &mut Playback, sink: &mut S, lent: &mut Lent, recording: &[u8]) {
     let mut reader = Reader::new(recording);
     let mut left = recording.len() / 4;
-    let size = memory.len().min(65536) as u32;
-    let _ = stream.prepare(sink, ledger);
+    let size = lent.memory.len().min(65536) as u32;
+    let _ = stream.prepare(sink, &mut lent.ledger);
     for _ in 0..recording.len() {
         let wanted = left.min(65536) as u32;
-        left = left.saturating_sub(commit(stream, memory, &mut reader, scratch, wanted));
+        left = left.saturating_sub(commit(stream, lent, &mut reader, wanted));
         let waiting = size.saturating_sub(stream.avail());
         if left == 0 {
             let _ = stream.drain();
-            let _ = stream.tick(sink, memory, ledger, waiting);
+            let _ = stream.tick(sink, &lent.memory, &mut lent.ledger, waiting);
             break;
         }
         let k = waiting.saturating_sub(1);
-        match stream.tick(sink, memory, ledger, k) {
+        match stream.tick(sink, &lent.memory, &mut lent.ledger, k) {
             Ok(ticked) if ticked.frames == k => {}
             _ => break,
         }
     }
 }
 
-// Plays a recording, and writes what the tape has heard; none where the numbers are refused.
+// Plays a recording, and writes what the tape has heard; tells how many frames. It is given what the C function is given.
 pub fn play_all(
     heap: Global,
     buffer: u32,
@@ -107,103 +102,75 @@ pub fn play_all(
     taps: &[u8],
     recording: &[u8],
     out: &mut [u8],
-) -> Result<Option<usize>, AllocError> {
-    let Ok(geometry) = Geometry::check(buffer, 1, None, 1, 1) else {
-        return Ok(None);
-    };
+) -> Result<usize, Failure> {
+    let geometry = Geometry::check(buffer, 1, None, 1, 1)?;
     let tape = vec![in heap; 0; (recording.len() / 4).min(4_194_304) * 4]?;
-    let Ok(mut pile) = build(tape, gain, keep, taps) else {
-        return Ok(None);
-    };
+    let mut pile = build(tape, gain, keep, taps)?;
     let mut stream = Playback::new(geometry);
-    let mut memory = vec![in heap; SILENCE; buffer as usize]?;
-    let mut scratch = vec![in heap; SILENCE; buffer as usize]?;
-    let mut ledger = [NO_ENTRY];
-    feed(
-        &mut stream,
-        &mut pile,
-        &mut memory,
-        &mut ledger,
-        &mut scratch,
-        recording,
-    );
+    let mut lent = Lent::new(heap, buffer)?;
+    feed(&mut stream, &mut pile, &mut lent, recording);
     let tape = pile.into_below().into_below().into_below();
     let heard = tape.count();
     let bytes = tape.into_memory();
-    let n = (heard.saturating_mul(4)).min(bytes.len()).min(out.len());
+    let n = heard.saturating_mul(4).min(bytes.len()).min(out.len());
     out[..n].copy_from_slice(&bytes[..n]);
-    Ok(Some(heard))
+    Ok(heard)
 }
 
 // Reads what one lease has into the scratch memory; tells how many frames.
-fn read(stream: &mut Capture, memory: &[Frame], scratch: &mut [Frame]) -> usize {
+fn read(stream: &mut Capture, lent: &mut Lent) -> usize {
     let Ok(lease) = stream.begin(65536) else {
         return 0;
     };
-    let n = (lease.parts().length as usize).min(scratch.len());
-    let _ = stream.copy(memory, &lease, 0, &mut scratch[..n]);
-    match stream.commit(lease, n as u32) {
-        Ok(()) => n,
-        Err(_) => 0,
-    }
+    let n = (lease.parts().length as usize).min(lent.scratch.len());
+    let _ = stream.copy(&lent.memory, &lease, 0, &mut lent.scratch[..n]);
+    stream.commit(lease, n as u32).map_or(0, |()| n)
 }
 
 // Captures and reads by turns, always leaving a place free, until nothing comes any more; tells how many frames were read.
 fn read_all(
     stream: &mut Capture,
     source: &mut ByteSource,
-    memory: &mut [Frame],
-    ledger: &mut [Entry],
-    scratch: &mut [Frame],
-    out: &mut [u8],
+    lent: &mut Lent,
+    writer: &mut Writer<'_>,
     most: usize,
 ) -> usize {
-    let k = memory.len().saturating_sub(1).min(65536) as u32;
+    let k = lent.memory.len().saturating_sub(1).min(65536) as u32;
     let mut got = 0usize;
-    let mut at = 0usize;
     for _ in 0..most {
-        let Ok(ticked) = stream.tick(source, memory, ledger, k) else {
+        let Ok(ticked) = stream.tick(source, &mut lent.memory, &mut lent.ledger, k) else {
             break;
         };
         if ticked.frames == 0 {
             break;
         }
         for _ in 0..2 {
-            let n = read(stream, memory, scratch).min(scratch.len());
-            at = put_frames(out, at, &scratch[..n]);
+            let n = read(stream, lent).min(lent.scratch.len());
+            let _ = writer.put_all(&lent.scratch[..n]);
             got = got.saturating_add(n);
         }
     }
     got
 }
 
-// Captures a recording, and writes every frame read; none where the buffer is refused.
+// Captures a recording, and writes every frame read; tells how many.
 pub fn capture_all(
     heap: Global,
     buffer: u32,
     recording: &[u8],
     out: &mut [u8],
-) -> Result<Option<usize>, AllocError> {
-    let Ok(geometry) = Geometry::check(buffer, 1, None, 1, 1) else {
-        return Ok(None);
-    };
-    let mut bytes = vec![in heap; 0; recording.len()]?;
-    bytes.copy_from_slice(recording);
-    let mut source = ByteSource::new(bytes);
+) -> Result<usize, Failure> {
+    let geometry = Geometry::check(buffer, 1, None, 1, 1)?;
+    let mut source = ByteSource::new(recording.to_vec(heap)?);
     let mut stream = Capture::new(geometry);
-    let mut memory = vec![in heap; SILENCE; buffer as usize]?;
-    let mut scratch = vec![in heap; SILENCE; buffer as usize]?;
-    let mut ledger = [NO_ENTRY];
-    let _ = stream.prepare(&mut ledger);
+    let mut lent = Lent::new(heap, buffer)?;
+    let _ = stream.prepare(&mut lent.ledger);
     let _ = stream.start();
-    let got = read_all(
+    Ok(read_all(
         &mut stream,
         &mut source,
-        &mut memory,
-        &mut ledger,
-        &mut scratch,
-        out,
+        &mut lent,
+        &mut Writer::new(out, 0),
         recording.len(),
-    );
-    Ok(Some(got))
+    ))
 }

@@ -1,35 +1,46 @@
-// A script run over any sink.
-use crate::answers::{ANSWER, put_answer};
-use crate::decoding::{Coded, read_call};
+// A script run over any pile.
+use crate::answers::{ANSWER, Standing, put_answer};
+use crate::decoding::read_call;
+use crate::failure::Failure;
 use crate::header::Setup;
+use crate::piles::Pile;
 use crate::reading::Reader;
-use calls::answer::Answer;
+use crate::writing::Writer;
+use calls::answer::{Answer, Outcome};
+use calls::call::Call;
+use calls::elsewhere::Spare;
 use calls::entry::Entry;
 use capture::capture::Capture;
+use capture::situation::Situation as CaptureSituation;
 use codes::entry_kind::EntryKind;
 use frames::frame::Frame;
 use playback::playback::Playback;
+use playback::situation::Situation as PlaybackSituation;
 use sinks::sink::Sink;
 use sources::step_source::StepSource;
 use std::alloc::{AllocError, Global};
-use streams::trying::{Hands, Tried, try_calls};
+use streams::table::Table;
+use streams::trying::{Hands, Tried};
 
-// How a script ended, how many calls were tried, and where the next bytes go.
-#[derive(Clone, Copy)]
-pub struct Ran {
-    pub status: u32,
-    pub count: u32,
-    pub at: usize,
+// The bytes before the answers.
+const HEAD: usize = 8;
+
+// A script behind its header.
+#[derive(Drop)]
+pub struct Script<'a> {
+    pub heap: Global,
+    pub setup: Setup,
+    pub calls: Reader<'a>,
 }
 
-pub const ALL_TRIED: u32 = 0;
+// How the calls ended, and how many were tried.
+#[derive(Clone, Copy)]
+struct Ran {
+    ended: Result<(), Failure>,
+    count: u32,
+}
 
-pub const NOT_DECODED: u32 = 100;
-
-pub const NO_ROOM: u32 = 101;
-
-pub const SILENCE: Frame = Frame { left: 0, right: 0 };
-
+// What a ledger's memory holds before an entry is written. No kind of entry is the usual one, so there is no default.
 pub const NO_ENTRY: Entry = Entry {
     kind: EntryKind::Underrun,
     first: 0,
@@ -49,22 +60,9 @@ struct Streams {
     source: StepSource,
     capture_memory: Vec<Frame>,
     capture_ledger: Vec<Entry>,
+    host: Vec<Frame>,
     spare: Vec<Frame>,
     spare_ledger: Vec<Entry>,
-}
-
-fn set_up(heap: Global, setup: &Setup) -> Result<Streams, AllocError> {
-    Ok(Streams {
-        playback: Playback::new(setup.playback),
-        memory: vec![in heap; SILENCE; setup.playback.buffer() as usize]?,
-        ledger: vec![in heap; NO_ENTRY; setup.playback.ledger() as usize]?,
-        capture: Capture::new(setup.capture),
-        source: StepSource::new(setup.frames, setup.sample, setup.step),
-        capture_memory: vec![in heap; SILENCE; setup.capture.buffer() as usize]?,
-        capture_ledger: vec![in heap; NO_ENTRY; setup.capture.ledger() as usize]?,
-        spare: vec![in heap; SILENCE; 3]?,
-        spare_ledger: vec![in heap; NO_ENTRY; 3]?,
-    })
 }
 
 // What a call answered, and the leases that are out after it.
@@ -74,35 +72,55 @@ struct Asked {
 }
 
 impl Streams {
-    fn try_one<S: Sink>(
-        &mut self,
-        sink: &mut S,
-        host: &mut [Frame],
-        hands: Hands,
-        coded: Coded,
-        frames: &[Frame],
-    ) -> Asked {
-        let call = coded.with(frames);
-        let mut answers = [Answer::Done];
-        let Tried { count: _, hands } = try_calls(
-            &mut self.playback,
-            sink,
-            &mut self.memory,
-            &mut self.ledger,
-            &mut self.capture,
-            &mut self.source,
-            &mut self.capture_memory,
-            &mut self.capture_ledger,
-            host,
-            &mut self.spare,
-            &mut self.spare_ledger,
-            hands,
-            &[call],
-            &mut answers,
-        );
+    fn new(heap: Global, setup: &Setup) -> Result<Streams, AllocError> {
+        Ok(Streams {
+            playback: Playback::new(setup.playback),
+            memory: vec![in heap; Frame::default(); setup.playback.buffer() as usize]?,
+            ledger: vec![in heap; NO_ENTRY; setup.playback.ledger() as usize]?,
+            capture: Capture::new(setup.capture),
+            source: StepSource::new(setup.frames, setup.sample, setup.step),
+            capture_memory: vec![in heap; Frame::default(); setup.capture.buffer() as usize]?,
+            capture_ledger: vec![in heap; NO_ENTRY; setup.capture.ledger() as usize]?,
+            host: vec![in heap; Frame::default(); setup.host]?,
+            spare: vec![in heap; Frame::default(); 3]?,
+            spare_ledger: vec![in heap; NO_ENTRY; 3]?,
+        })
+    }
+
+    // The table borrows the streams and the sink for one lifetime, so it has a name here.
+    fn try_one<'a, S: Sink>(&'a mut self, sink: &'a mut S, hands: Hands, call: Call<'_>) -> Asked {
+        let mut table = Table {
+            playback: PlaybackSituation {
+                stream: &mut self.playback,
+                sink,
+                memory: &mut self.memory,
+                ledger: &mut self.ledger,
+            },
+            capture: CaptureSituation {
+                stream: &mut self.capture,
+                source: &mut self.source,
+                memory: &mut self.capture_memory,
+                ledger: &mut self.capture_ledger,
+                host: &mut self.host,
+            },
+        };
+        let mut spare = Spare {
+            frames: &mut self.spare,
+            ledger: &mut self.spare_ledger,
+        };
+        let mut answers = [Ok(Outcome::Done)];
+        let Tried { count: _, hands } = table.try_calls(&mut spare, hands, &[call], &mut answers);
         Asked {
             answer: answers[0],
             hands,
+        }
+    }
+
+    // How the stream stands that a call was for.
+    fn standing(&self, call: Call<'_>) -> Standing {
+        match call {
+            Call::Playback(_) => Standing::from(&self.playback),
+            Call::Capture(_) => Standing::from(&self.capture),
         }
     }
 
@@ -116,68 +134,87 @@ impl Streams {
             let _ = self.capture.commit(lease, 0);
         }
     }
-}
 
-// The next call of a script, with its frames read into the scratch memory.
-fn next_call(script: &mut Reader<'_>, scratch: &mut [Frame]) -> Option<Coded> {
-    let coded = read_call(script)?;
-    let count = coded.frames() as usize;
-    if count > scratch.len() || !script.fill(&mut scratch[..count]) {
-        return None;
-    }
-    Some(coded)
-}
-
-// Tries the calls of a script one after the other, and writes each answer.
-pub fn run<S: Sink>(
-    heap: Global,
-    setup: &Setup,
-    sink: &mut S,
-    script: &mut Reader<'_>,
-    most: usize,
-    host: &mut [Frame],
-    out: &mut [u8],
-) -> Result<Ran, AllocError> {
-    let mut streams = set_up(heap, setup)?;
-    let mut scratch = vec![in heap; SILENCE; most / 4]?;
-    let mut ran = Ran {
-        status: ALL_TRIED,
-        count: 0,
-        at: 8,
-    };
-    let mut hands = Hands {
-        playback: None,
-        capture: None,
-    };
-    for _ in 0..most {
-        if script.at_end() {
-            break;
-        }
-        let Some(coded) = next_call(script, &mut scratch) else {
-            ran.status = NOT_DECODED;
-            break;
+    // Tries the calls one after the other, and writes each answer.
+    fn try_all<S: Sink>(
+        &mut self,
+        sink: &mut S,
+        calls: &mut Reader<'_>,
+        scratch: &mut [Frame],
+        writer: &mut Writer<'_>,
+    ) -> Ran {
+        let mut ran = Ran {
+            ended: Ok(()),
+            count: 0,
         };
-        if out.len().saturating_sub(ran.at) < ANSWER {
-            ran.status = NO_ROOM;
-            break;
+        let mut hands = Hands {
+            playback: None,
+            capture: None,
+        };
+        // Each call is at least a byte.
+        for _ in 0..calls.left() {
+            if calls.left() == 0 {
+                break;
+            }
+            let Some(call) = read_call(calls, scratch) else {
+                ran.ended = Err(Failure::NotDecoded);
+                break;
+            };
+            if !writer.has_room(ANSWER) {
+                ran.ended = Err(Failure::NoRoom);
+                break;
+            }
+            let Asked {
+                answer,
+                hands: left,
+            } = self.try_one(sink, hands, call);
+            hands = left;
+            let _ = put_answer(writer, answer, self.standing(call));
+            ran.count = ran.count.saturating_add(1);
         }
-        let count = (coded.frames() as usize).min(scratch.len());
-        let Asked {
-            answer,
-            hands: left,
-        } = streams.try_one(sink, host, hands, coded, &scratch[..count]);
-        hands = left;
-        let _ = put_answer(
-            out,
-            ran.at,
-            answer,
-            coded.is_capture(),
-            &streams.playback,
-            &streams.capture,
-        );
-        ran.at = ran.at.saturating_add(ANSWER);
-        ran.count = ran.count.saturating_add(1);
+        self.give_back(hands);
+        ran
     }
-    streams.give_back(hands);
-    Ok(ran)
+}
+
+// How many frames there are; a tape here has at most 65,536.
+fn count_of(frames: &[Frame]) -> u32 {
+    u32::try_from(frames.len()).unwrap_or(u32::MAX)
+}
+
+// Behind the answers what was heard and the host's memory, unless they have no room.
+fn put_end(writer: &mut Writer<'_>, heard: &[Frame], host: &[Frame]) -> Result<(), Failure> {
+    let frames = heard.len().saturating_add(host.len());
+    if !writer.has_room(frames.saturating_mul(4).saturating_add(4)) {
+        return Err(Failure::NoRoom);
+    }
+    let _ = writer.put(count_of(heard));
+    let _ = writer.put_all(heard);
+    let _ = writer.put_all(host);
+    Ok(())
+}
+
+// The head of what is written: a status, and how many calls were tried. Tells how many bytes it has.
+pub fn put_head(out: &mut [u8], ended: Result<(), Failure>, count: u32) -> usize {
+    let status = ended.err().map_or(0, u32::from);
+    let _ = Writer::new(out, 0).put_all(&[status, count]);
+    HEAD
+}
+
+// Runs a script onto a pile, and answers how many bytes were written.
+pub fn run<P: Pile>(script: Script<'_>, mut pile: P, out: &mut [u8]) -> Result<usize, AllocError> {
+    let Script {
+        heap,
+        setup,
+        mut calls,
+    } = script;
+    let mut streams = Streams::new(heap, &setup)?;
+    let mut scratch = vec![in heap; Frame::default(); calls.left() / 4]?;
+    let mut writer = Writer::new(out, HEAD);
+    let ran = streams.try_all(&mut pile, &mut calls, &mut scratch, &mut writer);
+    let heard = pile.heard(heap)?;
+    let ended = put_end(&mut writer, &heard, &streams.host).and(ran.ended);
+    let written = writer.at();
+    put_head(out, ended, ran.count);
+    Ok(written)
 }

@@ -1,59 +1,50 @@
 // A whole script: its header, its calls, and what is written behind them.
-use crate::header::{check_header, read_header};
-use crate::piles::run_shape;
+use crate::failure::Failure;
+use crate::header::read_setup;
 use crate::reading::Reader;
-use crate::running::{NO_ROOM, NOT_DECODED, Ran, SILENCE};
-use crate::writing::{has_room, put_frames, put_number};
-use frames::frame::Frame;
+use crate::running::{Script, put_head, run};
+use crate::shape::Shape;
 use std::alloc::{AllocError, Global};
 
-// How many frames there are; a tape here has at most 65,536.
-fn count_of(frames: &[Frame]) -> u32 {
-    match u32::try_from(frames.len()) {
-        Ok(count) => count,
-        Err(_) => 4_294_967_295,
+// Runs a script onto a pile of the shape that its setup asks for. Each arm makes a pile of another type.
+fn run_shape(script: Script<'_>, out: &mut [u8]) -> Result<usize, AllocError> {
+    let heap = script.heap;
+    let setup = script.setup;
+    match setup.shape {
+        Shape::Bytes => run(script, setup.byte_tape(heap)?, out),
+        Shape::Frames => run(script, setup.frame_tape(heap)?, out),
+        Shape::FaultBytes => run(script, setup.fault(setup.byte_tape(heap)?), out),
+        Shape::GainFaultFrames => run(
+            script,
+            setup.gain(setup.fault(setup.frame_tape(heap)?)),
+            out,
+        ),
+        Shape::FilterGainFaultBytes => run(
+            script,
+            setup.filter(setup.gain(setup.fault(setup.byte_tape(heap)?))),
+            out,
+        ),
+        Shape::KeepFilterGainFaultBytes => run(
+            script,
+            setup.keep(setup.filter(setup.gain(setup.fault(setup.byte_tape(heap)?)))),
+            out,
+        ),
+        Shape::FaultKeepBytes => run(script, setup.fault(setup.keep(setup.byte_tape(heap)?)), out),
+        Shape::GainKeepFilterFrames => run(
+            script,
+            setup.gain(setup.keep(setup.filter(setup.frame_tape(heap)?))),
+            out,
+        ),
     }
 }
 
-// The head of what is written, and behind the answers what was heard and the host's memory.
-fn finish(out: &mut [u8], ran: Ran, heard: &[Frame], host: &[Frame]) -> usize {
-    let mut status = ran.status;
-    let mut at = ran.at;
-    let all = heard
-        .len()
-        .saturating_add(host.len())
-        .saturating_mul(4)
-        .saturating_add(4);
-    if has_room(out, at, all) {
-        let _ = put_number(out, at, count_of(heard));
-        let place = put_frames(out, at.saturating_add(4), heard);
-        at = put_frames(out, place, host);
-    } else {
-        status = NO_ROOM;
-    }
-    let _ = put_number(out, 0, status);
-    let _ = put_number(out, 4, ran.count);
-    at
-}
-
-// Only a status, and that no call was tried.
-pub fn put_status(out: &mut [u8], status: u32) -> usize {
-    let _ = put_number(out, 0, status);
-    let _ = put_number(out, 4, 0);
-    8
+fn try_script(heap: Global, bytes: &[u8], out: &mut [u8]) -> Result<usize, Failure> {
+    let mut calls = Reader::new(bytes);
+    let setup = read_setup(&mut calls)?;
+    Ok(run_shape(Script { heap, setup, calls }, out)?)
 }
 
 // Runs a script and answers how many bytes were written.
-pub fn run_script(heap: Global, bytes: &[u8], out: &mut [u8]) -> Result<usize, AllocError> {
-    let mut script = Reader::new(bytes);
-    let Some(header) = read_header(&mut script) else {
-        return Ok(put_status(out, NOT_DECODED));
-    };
-    let setup = match check_header(header) {
-        Ok(setup) => setup,
-        Err(why) => return Ok(put_status(out, why.number())),
-    };
-    let mut host = vec![in heap; SILENCE; setup.host]?;
-    let heard = run_shape(heap, &setup, &mut script, bytes.len(), &mut host, out)?;
-    Ok(finish(out, heard.ran, &heard.frames, &host))
+pub fn run_script(heap: Global, bytes: &[u8], out: &mut [u8]) -> usize {
+    try_script(heap, bytes, out).unwrap_or_else(|failure| put_head(out, Err(failure), 0))
 }

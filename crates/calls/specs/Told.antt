@@ -4,28 +4,28 @@
 -- Assumes nothing.
 use Rattle.std.specs.Prelude.{Some, None, Ok, Err, Option, Result}
 use Rattle.codes.specs.declared.refusal.Refusal.{Refusal}
-use Rattle.calls.specs.declared.answer.Answer.{Answer}
-use Rattle.calls.specs.declared.answer.Answer.TheVariants as answer
+use Rattle.calls.specs.Answers.{Answer}
+use Rattle.calls.specs.declared.answer.Outcome.TheVariants as outcome
 use Rattle.calls.specs.declared.answer.Ticked.{Ticked}
 use Rattle.calls.specs.declared.entry.Entry.{Entry}
 use Rattle.calls.specs.declared.lease.Lease.{Lease}
 use Rattle.calls.specs.declared.lease_parts.LeaseParts.{LeaseParts}
 
 abbrev pub told : Result Unit Refusal → Answer
-told (Ok u) = answer.Done
-told (Err why) = answer.Refused why
+told (Ok u) = Ok outcome.Done
+told (Err why) = Err why
 
 abbrev pub told_lease : {K : Type 0} → Result (Lease K) Refusal → Answer
-told_lease (Ok l) = answer.Granted l.parts
-told_lease (Err why) = answer.Refused why
+told_lease (Ok l) = Ok (outcome.Granted l.parts)
+told_lease (Err why) = Err why
 
 abbrev pub told_tick : Result Ticked Refusal → Answer
-told_tick (Ok t) = answer.Ticked t
-told_tick (Err why) = answer.Refused why
+told_tick (Ok t) = Ok (outcome.Ticked t)
+told_tick (Err why) = Err why
 
 abbrev pub told_entry : Result (Option Entry) Refusal → Answer
-told_entry (Ok e) = answer.Taken e
-told_entry (Err why) = answer.Refused why
+told_entry (Ok e) = Ok (outcome.Taken e)
+told_entry (Err why) = Err why
 
 abbrev pub handed : {K : Type 0} → Option (Lease K) → Option LeaseParts
 handed None = None

@@ -2,8 +2,8 @@
 ghost use Rattle.std.specs.Prelude.{◌≡◌};
 ghost use Rattle.calls.specs.Told.{handed, told_lease};
 
-use crate::answer::Answer;
-use crate::lease_parts::LeaseParts;
+use crate::answer::{Answer, Outcome};
+use crate::lease_parts::{LeaseParts, Lending};
 use codes::refusal::Refusal;
 
 // A lease under a seal: only who can make the seal makes leases and ends them. It has no `Drop`, so it cannot be let go.
@@ -35,32 +35,40 @@ impl<K: Copy> Lease<K> {
     }
 }
 
+// Not a `From`, since a lease is ended under its seal.
 // What a begin answered, told as data.
 pub fn tell_lease<K: Copy>(r: Result<Lease<K>, Refusal>, seal: K) -> Answer
     ensures { result ≡ told_lease r }
 {
-    match r {
-        Ok(lease) => Answer::Granted(lease.end(seal)),
-        Err(why) => Answer::Refused(why),
-    }
+    Ok(Outcome::Granted(r?.end(seal)))
 }
 
 // The lease that has these parts, if there are any.
 pub fn lease_of<K: Copy>(parts: Option<LeaseParts>, seal: K) -> Option<Lease<K>>
     ensures { handed result ≡ parts }
 {
-    match parts {
-        Some(parts) => Some(Lease::new(parts, seal)),
-        None => None,
-    }
+    Some(Lease::new(parts?, seal))
 }
 
 // Ends the lease in hand, if there is one.
 pub fn end_lease<K: Copy>(hand: Option<Lease<K>>, seal: K) -> Option<LeaseParts>
     ensures { result ≡ handed hand }
 {
-    match hand {
-        Some(lease) => Some(lease.end(seal)),
-        None => None,
+    Some(hand?.end(seal))
+}
+
+impl Lending {
+    // The lease that is out, in exchange for the one in hand, which is used up.
+    pub fn exchange<K: Copy>(&self, hand: Option<Lease<K>>, seal: K) -> Option<Lease<K>>
+        ensures { handed result ≡ self.now.out }
+    {
+        let _ = end_lease(hand, seal);
+        lease_of(self.out, seal)
     }
+}
+
+// What a call answered, and the lease that is out after it.
+pub struct Tried<K: Copy> {
+    pub answer: Answer,
+    pub lease: Option<Lease<K>>,
 }

@@ -8,5 +8,4 @@ pub mod elsewhere;
 pub mod entry;
 pub mod lease;
 pub mod lease_parts;
-pub mod telling;
 pub mod verdict;

@@ -1,4 +1,7 @@
 // What a state makes of a call.
+ghost use Rattle.std.specs.Prelude.{◌≡◌};
+ghost use Rattle.calls.specs.Effects.{state_after};
+
 use codes::refusal::Refusal;
 use codes::state::State;
 
@@ -18,11 +21,24 @@ pub enum CallKind {
     Take,
 }
 
-// The state stays, frames move, another state is entered, or the call is refused.
+// What an allowed call does: the state stays, frames move, or another state is entered.
 #[derive(Clone, Copy)]
-pub enum Verdict {
+pub enum Effect {
     Stay,
     Move,
     Enter(State),
-    Refuse(Refusal),
 }
+
+impl Effect {
+    // The state after the call, by the state before.
+    pub fn state_after(self, before: State) -> State
+        ensures { result ≡ state_after self before }
+    {
+        match self {
+            Effect::Stay | Effect::Move => before,
+            Effect::Enter(state) => state,
+        }
+    }
+}
+
+pub type Verdict = Result<Effect, Refusal>;

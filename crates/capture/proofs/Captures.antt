@@ -1,10 +1,10 @@
 -- A tick of a capture stream, from what came and what was noted. Assumes nothing.
-use Rattle.std.proofs.Common.{◌≡◌, ℕ, ◌+◌, ◌-◌, ◌%◌, List, length, take, drop, Option, ap, ◌∙◌}
+use Rattle.std.proofs.Common.{◌≡◌, ℕ, ◌+◌, ◌-◌, ◌%◌, List, length, take, drop, Option, ap, ◌∙◌, Ok}
 use native.Mathlib.Nat.{mod-add-mod}
 use Rattle.codes.specs.declared.state.State.{State}
 use Rattle.frames.specs.declared.frame.Frame.{Frame}
 use Rattle.sources.specs.Source.{SourcePoints, Gives}
-use Rattle.calls.specs.declared.answer.Answer.TheVariants.{Ticked}
+use Rattle.calls.specs.declared.answer.Outcome.TheVariants.{Ticked}
 use Rattle.calls.specs.declared.entry.Entry.{Entry}
 use Rattle.ring.specs.declared.span.Span.{Span}
 use Rattle.ring.specs.Spans.{Has}
@@ -27,7 +27,7 @@ pub captured :
     → due ≡ overrun b kept lost
     → n ≡ with_noted b.ledger due
     → es' ≡ noted b.ledger es due
-    → Captured p b s m es k (Ticked (record { frames = kept; state = state; periods = passed })) (record { geometry = b.geometry; state = state; given_up = b.given_up + (kept + lost); oldest = b.oldest; unread = b.unread + kept; lending = b.lending; ledger = n }) s' m' es'
+    → Captured p b s m es k (Ok (Ticked (record { frames = kept; state = state; periods = passed }))) (record { geometry = b.geometry; state = state; given_up = b.given_up + (kept + lost); oldest = b.oldest; unread = b.unread + kept; lending = b.lending; ledger = n }) s' m' es'
 captured p b s s' m m' es es' k kept lost span state passed due n (size, first, count) keeps loses gives writes turns passes dues numbers notes =
     let buffer : ℕ = b.geometry.buffer in
     let came : List Frame = take k (p.coming s) in
@@ -43,7 +43,7 @@ captured p b s s' m m' es es' k kept lost span state passed due n (size, first, 
       came = came;
       came_is = λ i. came;
       given = gives;
-      answer = λ i. Ticked (record { frames = keeps' i; state = turns' i; periods = passes' i });
+      answer = λ i. Ok (Ticked (record { frames = keeps' i; state = turns' i; periods = passes' i }));
       stream = λ i. record { geometry = b.geometry; state = turns' i; given_up = b.given_up + (keeps' i + loses' i); oldest = b.oldest; unread = b.unread + keeps' i; lending = b.lending; ledger = numbers' i };
       memory = writes ∙ (λ i. stored (size i) m (span.oldest + span.count) (take (room i) came)) ∙ stored_place buffer m (span.oldest + span.count) (b.oldest + b.unread) (take (buffer - b.unread) came) place;
       ledger = notes ∙ ap (noted b.ledger es) dues';

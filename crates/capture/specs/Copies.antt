@@ -6,7 +6,7 @@ use Rattle.std.specs.Prelude.{◌≡◌, ℕ, List, length}
 use Rattle.std.proofs.Math.Seq.{paste}
 use Rattle.codes.specs.declared.refusal.Refusal.TheVariants as refusal
 use Rattle.frames.specs.declared.frame.Frame.{Frame}
-use Rattle.calls.specs.declared.answer.Answer.{Answer}
+use Rattle.calls.specs.Answers.{Answer}
 use Rattle.calls.specs.declared.call.Given.{Given}
 use Rattle.calls.specs.declared.call.Given.TheVariants.{Own, Another}
 use Rattle.calls.specs.declared.lease_parts.LeaseParts.{LeaseParts}

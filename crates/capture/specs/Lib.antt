@@ -1,2 +1,3 @@
 pub mod CaptureBook
 pub mod Copies
+pub mod Situations

@@ -10,17 +10,16 @@ use ring::span::Span;
 
 mod copying;
 mod deciding;
+mod elsewhere;
 mod emptying;
 mod leasing;
 mod questions;
-mod stepping;
 mod taking;
-mod telling;
 mod ticking;
-pub mod trying;
 mod turning;
 
 // It holds numbers only; frame memory, ledger memory and source are lent to each call that takes them.
+// Contracts see it by `book_of` and not by a model: those of its private functions also name what the book leaves out, its spans.
 #[derive(Drop)]
 pub struct Capture {
     geometry: Geometry,

@@ -4,4 +4,5 @@
 
 pub mod capture;
 pub mod lease;
+pub mod situation;
 mod storing;

@@ -17,7 +17,8 @@ fn after(place: u32, size: u32) -> u32
     if place < size - 1 { place + 1 } else { 0 }
 }
 
-// Gets at most `most` frames, and writes them one after the other behind the newest of the ring.
+// Gets at most `most` frames, and writes them one after the other behind the newest of the ring, whose places wrap. This loop
+// and the next stay loops over `get`: after an iterator over a lent source a proof knows nothing of how the source is left.
 // The ring takes them in later, once it is known how many came.
 fn store<R: Source>(source: &mut R, span: &Span, memory: &mut [Frame], most: u32) -> u32
     requires { length memory.old ≡ span.now.size }
@@ -28,16 +29,14 @@ fn store<R: Source>(source: &mut R, span: &Span, memory: &mut [Frame], most: u32
 {
     let size = span.size();
     let mut place = span.next();
-    let mut count = 0;
-    while count < most {
+    for count in 0..most {
         let Some(frame) = source.get() else {
             return count;
         };
         memory[place as usize] = frame;
         place = after(place, size);
-        count += 1;
     }
-    count
+    most
 }
 
 // Gets at most `most` frames, and lets them go.
@@ -45,14 +44,12 @@ fn lose<R: Source>(source: &mut R, most: u32) -> u32
     ensures answer { result ≡ length (take most (R.Source.shows.coming source.old)) }
     ensures rule { Gives R.Source.shows source.old (take most (R.Source.shows.coming source.old)) source.new }
 {
-    let mut count = 0;
-    while count < most {
+    for count in 0..most {
         let Some(_) = source.get() else {
             return count;
         };
-        count += 1;
     }
-    count
+    most
 }
 
 // How many frames were stored, and how many more came.
@@ -80,7 +77,6 @@ pub(crate) fn take_in<R: Source>(
     let room = span.size() - span.count();
     let kept = store(source, span, memory, k.min(room));
     let lost = lose(source, k - kept);
-    // True, since there is room.
-    let _ = span.take_in(kept);
+    span.take_in(kept).unwrap();
     Came { kept, lost }
 }

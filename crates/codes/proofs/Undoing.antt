@@ -1,5 +1,5 @@
 -- The tables of numbers are undone. Assumes nothing.
-use Rattle.std.proofs.Common.{◌≡◌, ℕ, [], ◌∷◌, get_or, Some, None, sym, refl, ap, ◌∙◌}
+use Rattle.std.proofs.Common.{◌≡◌, ℕ, [], ◌∷◌, get_or, Ok, Err, sym, refl, ap, ◌∙◌}
 use Rattle.codes.specs.Numbered.{Undone}
 use Rattle.codes.specs.Refusals.{refusal_number}
 use Rattle.codes.specs.States.{state_number}
@@ -13,8 +13,8 @@ use Rattle.codes.specs.declared.entry_kind.EntryKind.TheVariants.{Underrun, Sink
 
 -- a table is undone as soon as some function reads each of its numbers back
 undone : {W : Type 0} (number : W → ℕ) (word : ℕ → W) → ((w : W) → word (number w) ≡ w) → Undone number
-undone number word back w None h = absurd (h w refl)
-undone number word back w (Some v) h = ap Some (sym (back v) ∙ ap word h ∙ back w)
+undone number word back w (Err _) h = absurd (h.0 w refl)
+undone number word back w (Ok v) h = ap Ok (sym (back v) ∙ ap word h ∙ back w)
 
 abbrev refusal_at : ℕ → Refusal
 refusal_at n = get_or (Limit ∷ Geometry ∷ Layer ∷ Memory ∷ NotNow ∷ InXrun ∷ Zero ∷ Unavailable ∷ NothingWaiting ∷ LeaseOut ∷ WrongLease ∷ Beyond ∷ LedgerFull ∷ []) n Limit

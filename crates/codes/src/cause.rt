@@ -1,4 +1,5 @@
-// Why a sink stopped, as far as the causes have names here.
+// Why a sink stopped, as far as the causes have names here. A cause stays a plain number and is no enum: any sink may have
+// causes of its own.
 ghost use Rattle.std.specs.Prelude.{◌≡◌};
 ghost use Rattle.codes.specs.Causes.{cause_name};
 

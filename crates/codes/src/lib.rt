@@ -12,6 +12,7 @@ pub mod cause;
 pub mod entry_kind;
 pub mod refusal;
 pub mod state;
+pub mod unknown_number;
 
 // Whoever reads back the number of a word gets that word, and no other.
 pub fn numbers_read_back()

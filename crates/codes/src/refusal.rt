@@ -1,7 +1,11 @@
 // Why a call was refused.
-ghost use Rattle.std.specs.Prelude.{◌≡◌};
+ghost use Rattle.std.specs.Prelude.{◌≡◌, Some};
 ghost use Rattle.codes.specs.Numbered.{Numbered};
 ghost use Rattle.codes.specs.Refusals.{refusal_number, refusal_name};
+
+use crate::unknown_number::UnknownNumber;
+use std::error::Error;
+use std::fmt;
 
 #[derive(Clone, Copy, PartialEq, Eq, Debug)]
 pub enum Refusal {
@@ -21,33 +25,6 @@ pub enum Refusal {
 }
 
 impl Refusal {
-    pub fn number(self) -> u32
-        ensures { result ≡ refusal_number self }
-    {
-        self as u32
-    }
-
-    pub fn from_number(n: u32) -> Option<Refusal>
-        ensures { Numbered refusal_number n result }
-    {
-        match n {
-            1 => Some(Refusal::Geometry),
-            2 => Some(Refusal::Layer),
-            3 => Some(Refusal::Memory),
-            4 => Some(Refusal::State),
-            5 => Some(Refusal::Xrun),
-            6 => Some(Refusal::Zero),
-            7 => Some(Refusal::Unavailable),
-            8 => Some(Refusal::NothingWaiting),
-            9 => Some(Refusal::LeaseOut),
-            10 => Some(Refusal::WrongLease),
-            11 => Some(Refusal::Beyond),
-            12 => Some(Refusal::LedgerFull),
-            13 => Some(Refusal::Limit),
-            _ => None,
-        }
-    }
-
     pub fn name(self) -> &'static str
         ensures { result.now ≡ refusal_name self }
     {
@@ -65,6 +42,49 @@ impl Refusal {
             Refusal::Beyond => "beyond the lease's length",
             Refusal::LedgerFull => "the ledger is full",
             Refusal::Limit => "a count would pass its limit",
+        }
+    }
+}
+
+impl fmt::Display for Refusal {
+    ghost output = { λ word. Some (refusal_name word) };
+
+    fn fmt<W: fmt::Write>(&self, f: &mut fmt::Formatter<W>) -> fmt::Result {
+        f.write_str(self.name())
+    }
+}
+
+impl Error for Refusal {}
+
+impl From<Refusal> for u32 {
+    ghost from_gives = { λ word n. n ≡ refusal_number word };
+
+    fn from(word: Refusal) -> u32 {
+        word as u32
+    }
+}
+
+impl TryFrom<u32> for Refusal {
+    type Error = UnknownNumber;
+
+    ghost try_from_gives = { Numbered refusal_number };
+
+    fn try_from(n: u32) -> Result<Refusal, UnknownNumber> {
+        match n {
+            1 => Ok(Refusal::Geometry),
+            2 => Ok(Refusal::Layer),
+            3 => Ok(Refusal::Memory),
+            4 => Ok(Refusal::State),
+            5 => Ok(Refusal::Xrun),
+            6 => Ok(Refusal::Zero),
+            7 => Ok(Refusal::Unavailable),
+            8 => Ok(Refusal::NothingWaiting),
+            9 => Ok(Refusal::LeaseOut),
+            10 => Ok(Refusal::WrongLease),
+            11 => Ok(Refusal::Beyond),
+            12 => Ok(Refusal::LedgerFull),
+            13 => Ok(Refusal::Limit),
+            _ => Err(UnknownNumber(n)),
         }
     }
 }

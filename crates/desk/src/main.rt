@@ -7,7 +7,6 @@ mod report;
 
 use crate::playing::play;
 use crate::report::{say_end, say_halts, say_peaks, say_pile, say_recording};
-use anyhow::bail;
 use codes::refusal::Refusal;
 use frames::frame::Frame;
 use frames::taps::TapSet;
@@ -36,13 +35,10 @@ fn run(rt: &HostRuntime) -> anyhow::Result<()> {
     let frames = read(heap, bytes)?;
     say_recording(rt, size, &frames)?;
     let count = frames.len();
-    let mark = (count / 2).min(4_294_967_295) as u32;
+    let mark = u32::try_from(count / 2).unwrap_or(u32::MAX);
     let room = count - count / 10;
     say_pile(rt, mark, room)?;
-    let mut pile = match build(vec![in heap; 0; room * 4]?, mark) {
-        Ok(pile) => pile,
-        Err(refusal) => bail!("{}", refusal.name()),
-    };
+    let mut pile = build(vec![in heap; 0; room * 4]?, mark)?;
     let mut halts = Vec::new(heap);
     let played = play(&mut pile, &frames, &mut halts)?;
     say_halts(rt, &halts)?;
@@ -56,7 +52,7 @@ fn run(rt: &HostRuntime) -> anyhow::Result<()> {
 // The frames of a recording. An incomplete last one is left out.
 fn read(heap: Global, bytes: Vec<u8>) -> Result<Vec<Frame>, AllocError> {
     let count = bytes.len() / 4;
-    let mut frames = vec![in heap; Frame { left: 0, right: 0 }; count]?;
+    let mut frames = vec![in heap; Frame::default(); count]?;
     let mut source = ByteSource::new(bytes);
     let got = get_all(&mut source, &mut frames);
     frames.truncate(got);
@@ -65,7 +61,7 @@ fn read(heap: Global, bytes: Vec<u8>) -> Result<Vec<Frame>, AllocError> {
 
 // The loudest sample of each channel.
 fn peak(frames: &[Frame]) -> Frame {
-    let mut peak = Frame { left: 0, right: 0 };
+    let mut peak = Frame::default();
     for frame in frames {
         peak.left = peak.left.max(frame.left.saturating_abs());
         peak.right = peak.right.max(frame.right.saturating_abs());

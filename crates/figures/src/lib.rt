@@ -27,6 +27,7 @@ mod tests {
     use sinks::sink::Sink;
     use std::test::Fail;
 
+    // No kind of entry is the usual one, so there is no default.
     const NO_ENTRY: Entry = Entry {
         kind: EntryKind::Underrun,
         first: 0,
@@ -123,10 +124,7 @@ mod tests {
         assert_eq!(rt; ticked.frames, 5);
         assert_eq!(rt; ticked.state, State::Xrun);
         assert_eq!(rt; ticked.periods, 1);
-        let missed = match stream.take(&mut ledger)? {
-            Some(entry) => entry.missed,
-            None => 0,
-        };
+        let missed = stream.take(&mut ledger)?.map_or(0, |entry| entry.missed);
         assert_eq!(rt; missed, 2);
         Ok(())
     }

@@ -1,23 +1,9 @@
 -- What the sums are in other words, and what they make of A followed by B. Assumes nothing.
-use Rattle.std.proofs.Common.{◌≡◌, ℕ, zero, suc, ◌+◌, ◌-◌, ◌*◌, ◌/◌, ◌%◌, ◌<◌, List, [], ◌∷◌, ◌++◌, map, reverse, get_or, ℤ, pos, negsuc, ◌+ℤ◌, ◌*ℤ◌, ◌≤ℤ◌, ◌<ℤ◌, sym, refl, ap, ◌∙◌, mod-lt, suc-mul, div-add-mod', zero-mul, arith, w16, SFits, to_z, of_z}
+use Rattle.std.proofs.Common.{◌≡◌, ℕ, zero, suc, ◌+◌, ◌-◌, ◌*◌, ◌<◌, List, [], ◌∷◌, ◌++◌, map, reverse, get_or, ℤ, sym, refl, ap, ◌∙◌, suc-mul, zero-mul, arith}
 use Rattle.std.proofs.lemmas.List.{append_assoc, reverse-append}
-use Rattle.std.proofs.lemmas.Int.{to_z-of_z, ints}
 use Rattle.frames.specs.declared.frame.Frame.{Frame}
-use Rattle.frames.specs.Layout.{bytes_of, frame_of, sample_of}
-use Rattle.frames.specs.Samples.{floor_div}
 use Rattle.frames.specs.Filter.{filtered, filtered_frame}
 use Rattle.frames.specs.Keep.{kept, falling}
-
-pub rounds_down : (z : ℤ) (d : ℕ) → 0 < d → ((floor_div z d *ℤ pos d) ≤ℤ z) × (z <ℤ ((floor_div z d *ℤ pos d) +ℤ pos d))
-rounds_down (pos n) d h =
-    let e : n / d * d + n % d ≡ n = div-add-mod' n d in
-    let l : n % d < d = mod-lt n h in
-    (grind (arith, ints), grind (arith, ints))
-rounds_down (negsuc n) d h =
-    let e : n / d * d + n % d ≡ n = div-add-mod' n d in
-    let s : suc (n / d) * d ≡ n / d * d + d = suc-mul (n / d) d in
-    let l : n % d < d = mod-lt n h in
-    (grind (arith, ints), grind (arith, ints))
 
 behind : {X : Type 0} (x : X) (xs ys : List X) → reverse (x ∷ xs) ++ ys ≡ reverse xs ++ (x ∷ ys)
 behind x xs ys = ap (λ z. z ++ ys) (reverse-append (x ∷ []) xs) ∙ append_assoc (reverse xs) (x ∷ []) ys
@@ -48,20 +34,3 @@ kept_at M h (suc k) (f ∷ fs) i d =
 
 pub keeps_every_mth : {F : Type 0} (M : ℕ) → 0 < M → (fs : List F) (i : ℕ) (d : F) → get_or (kept M 0 fs) i d ≡ get_or fs (i * M) d
 keeps_every_mth M h fs i d = let e : 0 + i * M ≡ i * M = omega arith in kept_at M h 0 fs i d ∙ ap (λ n. get_or fs n d) e
-
-two_bytes : (x : ℕ) → x < 65536 → x % 256 + x / 256 % 256 * 256 ≡ x
-two_bytes x h = omega arith
-
--- a sample, written and read back
-sample_back : (z : ℤ) → SFits w16 z → sample_of (of_z w16 z % 256) (of_z w16 z / 256 % 256) ≡ z
-sample_back (pos n) f = ap (to_z w16) (two_bytes n (omega (arith, f.sfits))) ∙ to_z-of_z w16 (pos n) f
-sample_back (negsuc n) f = ap (to_z w16) (two_bytes (65536 - suc n) (omega arith)) ∙ to_z-of_z w16 (negsuc n) f
-
--- frames with equal samples
-pub same_frame : (l l' r r' : ℤ) → l ≡ l' → r ≡ r' → ◌≡◌ {A = Frame} (record { left = l; right = r }) (record { left = l'; right = r' })
-same_frame l l' r r' p q = ap (λ z. record { left = z; right = r }) p ∙ ap (λ z. record { left = l'; right = z }) q
-
-pub reads_back : (f : Frame) → SFits w16 f.left → SFits w16 f.right → frame_of (bytes_of f) ≡ f
-reads_back f p q =
-    same_frame (sample_of (of_z w16 f.left % 256) (of_z w16 f.left / 256 % 256)) f.left (sample_of (of_z w16 f.right % 256) (of_z w16 f.right / 256 % 256)) f.right
-    (sample_back f.left p) (sample_back f.right q)

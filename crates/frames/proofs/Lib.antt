@@ -1,4 +1,4 @@
-pub mod Products
+pub mod Bounds
 pub mod Weights
 pub mod Line
 pub mod FilterSteps

@@ -1,8 +1,6 @@
 -- A delay line in which each input stands twice, one input later. Assumes nothing.
-use Rattle.std.proofs.Common.{◌≡◌, ℕ, zero, suc, ◌+◌, ◌-◌, ◌<◌, cond, eqb, ◌≢◌, ◌⊎◌, List, ◌∷◌, length, get_or, take, drop, set, replicate, ℤ, pos, sym, refl, ap, ◌∙◌, subst, inl, inr, arith}
+use Rattle.std.proofs.Common.{◌≡◌, ℕ, zero, suc, ◌+◌, ◌<◌, ◌≢◌, ◌⊎◌, List, ◌∷◌, length, get_or, take, drop, set, replicate, ℤ, pos, sym, ap, ◌∙◌, inl, inr, arith}
 use Rattle.std.proofs.lemmas.List.{length-set, length-take, length-drop, get_or-set_same, get_or-set_other, get_or-take, get_or-drop, get_or-replicate, ext_get_or}
-use Rattle.std.proofs.lemmas.Bool.{cases_eq}
-use Rattle.std.proofs.lemmas.Bool.Decides.{nat_tests}
 use Rattle.frames.specs.Mirror.{Mirrored, recent}
 
 -- an input written at both of its places
@@ -10,12 +8,8 @@ abbrev pub placed : List ℤ → ℕ → ℤ → List ℤ
 placed xs at x = set (set xs at x) (at + 32) x
 
 -- the place in front of another, round the 32
-abbrev InFront : ℕ → ℕ → Type 0
+abbrev pub InFront : ℕ → ℕ → Type 0
 InFront at' at = ((at ≡ 0) × (at' ≡ 31)) ⊎ (at' + 1 ≡ at)
-
-in_front : (at at' : ℕ) → at' ≡ cond (eqb at 0) 31 (at - 1) → InFront at' at
-in_front zero at' e = inl (refl, e)
-in_front (suc at) at' e = inr (grind (arith, nat_tests))
 
 at_first : (xs : List ℤ) (at : ℕ) (x : ℤ) → at < 32 → length xs ≡ 64 → get_or (placed xs at x) at (pos 0) ≡ x
 at_first xs at x h e =
@@ -23,20 +17,8 @@ at_first xs at x h e =
     let lt : at < length xs = omega arith in
     get_or-set_other (set xs at x) (at + 32) at x (pos 0) ne ∙ get_or-set_same xs at x (pos 0) lt
 
-at_second : (xs : List ℤ) (at : ℕ) (x : ℤ) → at < 32 → length xs ≡ 64 → get_or (placed xs at x) (at + 32) (pos 0) ≡ x
-at_second xs at x h e = get_or-set_same (set xs at x) (at + 32) x (pos 0) (omega (arith, length-set xs at x))
-
 elsewhere : (xs : List ℤ) (at i : ℕ) (x : ℤ) → i ≢ at → i ≢ at + 32 → get_or (placed xs at x) i (pos 0) ≡ get_or xs i (pos 0)
 elsewhere xs at i x p q = get_or-set_other (set xs at x) (at + 32) i x (pos 0) q ∙ get_or-set_other xs at i x (pos 0) p
-
-pub placed_mirrored : (xs : List ℤ) (at : ℕ) (x : ℤ) → at < 32 → length xs ≡ 64 → Mirrored xs → Mirrored (placed xs at x)
-placed_mirrored xs at x h e m i l =
-    elim (cases_eq i at) [
-      | inl p ↦
-          ap (λ k. get_or (placed xs at x) (k + 32) (pos 0)) p ∙ at_second xs at x h e ∙ sym (ap (λ k. get_or (placed xs at x) k (pos 0)) p ∙ at_first xs at x h e)
-      | inr p ↦
-          elsewhere xs at (i + 32) x (omega arith) (λ q. p (omega arith)) ∙ m i l ∙ sym (elsewhere xs at i x p (omega arith))
-    ]
 
 get_or_recent : (i k : ℕ) (xs : List ℤ) → k < 32 → get_or (recent i xs) k (pos 0) ≡ get_or xs (i + k) (pos 0)
 get_or_recent i k xs h = get_or-take 32 (drop i xs) k (pos 0) h ∙ get_or-drop i xs k (pos 0)
@@ -69,16 +51,13 @@ shifted_at xs at at' (suc j) x h h' e m p l =
     ∙ sym (get_or-take 32 (x ∷ recent at xs) (suc j) (pos 0) l ∙ get_or_recent at j xs (omega arith))
 
 -- the newest input stands first, and the oldest is gone
-pub recent_placed : (xs : List ℤ) (at at' : ℕ) (x : ℤ) → at < 32 → at' < 32 → length xs ≡ 64 → Mirrored xs → at' ≡ cond (eqb at 0) 31 (at - 1)
+pub recent_placed : (xs : List ℤ) (at at' : ℕ) (x : ℤ) → at < 32 → at' < 32 → length xs ≡ 64 → Mirrored xs → InFront at' at
     → recent at' (placed xs at' x) ≡ take 32 (x ∷ recent at xs)
 recent_placed xs at at' x h h' e m p =
     let l : length (placed xs at' x) ≡ 64 = length-set (set xs at' x) (at' + 32) x ∙ length-set xs at' x ∙ e in
     let a : length (recent at' (placed xs at' x)) ≡ 32 = length_recent at' (placed xs at' x) h' l in
     let b : length (take 32 (x ∷ recent at xs)) ≡ 32 = length-take 32 (x ∷ recent at xs) ∙ omega (arith, length_recent at xs h e) in
-    ext_get_or (pos 0) (recent at' (placed xs at' x)) (take 32 (x ∷ recent at xs)) (a ∙ sym b) (λ k lt. shifted_at xs at at' k x h h' e m (in_front at at' p) (omega arith))
+    ext_get_or (pos 0) (recent at' (placed xs at' x)) (take 32 (x ∷ recent at xs)) (a ∙ sym b) (λ k lt. shifted_at xs at at' k x h h' e m p (omega arith))
 
-silent_mirrored : Mirrored (replicate 64 (pos 0))
+pub silent_mirrored : Mirrored (replicate 64 (pos 0))
 silent_mirrored i h = get_or-replicate 64 (i + 32) (pos 0) (pos 0) (omega arith) ∙ sym (get_or-replicate 64 i (pos 0) (pos 0) (omega arith))
-
-pub silence_mirrored : (xs : List ℤ) → xs ≡ replicate 64 (pos 0) → Mirrored xs
-silence_mirrored xs e = subst (λ (ys : List ℤ). Mirrored ys) (sym e) silent_mirrored

@@ -12,11 +12,11 @@ use Rattle.frames.specs.declared.frame.Frame.{Frame}
 use Rattle.frames.specs.Keep.{kept}
 
 abbrev pub passing : Keeper → List Frame → List Frame
-passing k fs = kept k.every k.fall fs
+passing k fs = kept k.factor.every k.fall fs
 
 pub record Stepped (k k' : Keeper) : Type 0 where
-  pub every_same : k'.every ≡ k.every
-  pub falls : k'.fall ≡ cond (k.fall == 0) (k.every - 1) (k.fall - 1)
+  pub factor_same : k'.factor ≡ k.factor
+  pub falls : k'.fall ≡ cond (k.fall == 0) (k.factor.every - 1) (k.fall - 1)
 
 -- 1 to 8, and the factor is this very number
 abbrev pub CheckedFactor : ℕ → Result Factor Refusal → Type 0

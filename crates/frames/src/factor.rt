@@ -10,10 +10,8 @@ pub struct Factor {
 
 #[derive(Clone, Copy)]
 pub struct Keeper {
-    pub(crate) every: u32,
+    pub(crate) factor: Factor,
     // how many frames fall before the next one passes
     pub(crate) fall: u32,
-    ghost least: { 1 ≤ every },
-    ghost most: { every ≤ 8 },
-    ghost within: { fall < every },
+    ghost within: { fall < factor.every },
 }

@@ -1,13 +1,13 @@
 // The check of taps, and what a filter makes of one frame after another.
-ghost use Rattle.std.specs.Prelude.{◌≡◌, ◌+◌, ◌-◌, ◌<◌, ◌≤◌, List, [], ◌∷◌, ◌++◌, length, take, drop, set, replicate, pos, if◌then◌else◌, nat_eq};
+ghost use Rattle.std.specs.Prelude.{◌≡◌, ◌-◌, ◌≤◌, List, [], ◌∷◌, ◌++◌, length, take, drop, replicate, pos};
 ghost use Rattle.frames.specs.declared.frame.Frame.{Frame as Moment};
 ghost use Rattle.frames.specs.Filter.{filtered};
 ghost use Rattle.frames.specs.Filters.{taps_of, makes_of, output_of, Pushed, CheckedTaps};
+ghost use Rattle.frames.specs.Mirror.{recent};
 
 use crate::filter::{DelayLine, Filter};
 use crate::frame::Frame;
 use crate::taps::TapSet;
-use crate::weighing::filter_sample;
 use codes::refusal::Refusal;
 
 impl TapSet {
@@ -22,58 +22,45 @@ impl TapSet {
     }
 }
 
-// The place in front of another, round the 32.
-fn in_front(at: usize) -> usize
-    requires { at < 32 }
-    ensures within { result < 32 }
-    ensures front { result ≡ (if nat_eq at 0 then 31 else at - 1) }
-{
-    if at == 0 { 31 } else { at - 1 }
+impl Default for DelayLine {
+    ghost is_default = { λ line. (line.newest ≡ 0) × (line.left ≡ replicate 64 (pos 0)) × (line.right ≡ replicate 64 (pos 0)) };
+
+    // Earlier inputs are 0.
+    fn default() -> DelayLine {
+        DelayLine {
+            left: [0; 64],
+            right: [0; 64],
+            newest: 0,
+        }
+    }
 }
 
-// Writes an input at both of its places, as the newest.
-fn place(line: &mut DelayLine, at: usize, input: Frame)
-    requires { at < 32 }
-    ensures left { line.new.left ≡ set (set line.old.left at input.left) (at + 32) input.left }
-    ensures right { line.new.right ≡ set (set line.old.right at input.right) (at + 32) input.right }
-    ensures newest { line.new.newest ≡ at }
-    ensures long { (length line.old.left ≡ 64) × (length line.old.right ≡ 64) }
-{
-    line.left[at] = input.left;
-    line.left[at + 32] = input.left;
-    line.right[at] = input.right;
-    line.right[at + 32] = input.right;
-    line.newest = at;
-}
-
-// Copies to the front of the samples.
-fn copy_front(into: &mut [i16], from: &[i16])
-    requires { length from.now ≤ length into.old }
-    ensures { into.new ≡ from.now ++ drop (length from.now) into.old }
-{
-    into[0..from.len()].copy_from_slice(from);
+impl DelayLine {
+    // Writes an input in front of the newest, round the 32, at both of its places.
+    fn push(&mut self, input: Frame)
+        ensures left { recent self.new.newest self.new.left ≡ take 32 (input.left ∷ recent self.old.newest self.old.left) }
+        ensures right { recent self.new.newest self.new.right ≡ take 32 (input.right ∷ recent self.old.newest self.old.right) }
+    {
+        let at = if self.newest == 0 {
+            31
+        } else {
+            self.newest - 1
+        };
+        self.left[at] = input.left;
+        self.left[at + 32] = input.left;
+        self.right[at] = input.right;
+        self.right[at + 32] = input.right;
+        self.newest = at;
+    }
 }
 
 // The taps behind the first, filled up with 0.
 fn later_taps(set: &TapSet) -> [i16; 32]
-    ensures long { length result ≡ 32 }
-    ensures taps { result ≡ take (set.now.count - 1) (drop 1 set.now.taps) ++ replicate (32 - (set.now.count - 1)) (pos 0) }
+    ensures { result ≡ take (set.now.count - 1) (drop 1 set.now.taps) ++ replicate (32 - (set.now.count - 1)) (pos 0) }
 {
     let mut later = [0; 32];
-    copy_front(&mut later, &set.taps[1..set.count]);
+    later[..set.count - 1].copy_from_slice(&set.taps[1..set.count]);
     later
-}
-
-fn silent_line() -> DelayLine
-    ensures newest { result.newest ≡ 0 }
-    ensures left { result.left ≡ replicate 64 (pos 0) }
-    ensures right { result.right ≡ replicate 64 (pos 0) }
-{
-    DelayLine {
-        left: [0; 64],
-        right: [0; 64],
-        newest: 0,
-    }
 }
 
 impl Filter {
@@ -84,7 +71,7 @@ impl Filter {
         Filter {
             first: set.taps[0],
             later: later_taps(&set),
-            line: silent_line(),
+            line: DelayLine::default(),
         }
     }
 
@@ -92,10 +79,9 @@ impl Filter {
     pub fn output(&self, input: Frame) -> Frame
         ensures { result ≡ output_of self.now input }
     {
-        let from = self.line.newest;
         Frame {
-            left: filter_sample(self.first, &self.later, input.left, &self.line.left, from),
-            right: filter_sample(self.first, &self.later, input.right, &self.line.right, from),
+            left: self.sample(input.left, &self.line.left),
+            right: self.sample(input.right, &self.line.right),
         }
     }
 
@@ -104,7 +90,6 @@ impl Filter {
         ensures state { Pushed self.old input self.new }
         ensures rule { (fs : List Moment) → makes_of self.old (input ∷ fs) ≡ output_of self.old input ∷ makes_of self.new fs }
     {
-        let at = in_front(self.line.newest);
-        place(&mut self.line, at, input);
+        self.line.push(input);
     }
 }

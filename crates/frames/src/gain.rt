@@ -12,6 +12,8 @@ fn gain_sample(sample: i16, q: u16) -> i16
 }
 
 impl Frame {
+    // Each channel is written out, here, in a mix and in a filter: what they take of a channel differs, and a method for
+    // each that takes the sum as a closure would be longer than the pair.
     pub fn gain(self, q: u16) -> Frame
         ensures { result ≡ gained q self }
     {

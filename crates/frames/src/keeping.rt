@@ -6,6 +6,7 @@ use crate::factor::{Factor, Keeper};
 use codes::refusal::Refusal;
 
 impl Factor {
+    // Named `check` as for taps, marks and geometries, and no TryFrom: of these only two are made of one value.
     pub fn check(every: u32) -> Result<Factor, Refusal>
         ensures { CheckedFactor every result }
     {
@@ -19,18 +20,15 @@ impl Factor {
 impl Keeper {
     // The first frame passes.
     pub fn new(factor: Factor) -> Keeper
-        ensures { (result.every ≡ factor.every) × (result.fall ≡ 0) }
+        ensures { (result.factor ≡ factor) × (result.fall ≡ 0) }
     {
-        Keeper {
-            every: factor.every,
-            fall: 0,
-        }
+        Keeper { factor, fall: 0 }
     }
 
     pub fn every(&self) -> u32
-        ensures { result ≡ self.now.every }
+        ensures { result ≡ self.now.factor.every }
     {
-        self.every
+        self.factor.every
     }
 
     // How many frames fall before the next one passes.
@@ -45,7 +43,7 @@ impl Keeper {
         ensures { Stepped self.old self.new }
     {
         if self.fall == 0 {
-            self.fall = self.every - 1;
+            self.fall = self.factor.every - 1;
         } else {
             self.fall -= 1;
         }

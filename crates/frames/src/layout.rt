@@ -4,18 +4,20 @@ ghost use Rattle.frames.specs.Layout.{bytes_of, frame_of};
 
 use crate::frame::Frame;
 
-impl Frame {
-    pub fn to_bytes(self) -> [u8; 4]
-        ensures { result ≡ bytes_of self }
-    {
-        let left = self.left.to_le_bytes();
-        let right = self.right.to_le_bytes();
+impl From<Frame> for [u8; 4] {
+    ghost from_gives = { λ frame bytes. bytes ≡ bytes_of frame };
+
+    fn from(frame: Frame) -> [u8; 4] {
+        let left = frame.left.to_le_bytes();
+        let right = frame.right.to_le_bytes();
         [left[0], left[1], right[0], right[1]]
     }
+}
 
-    pub fn from_bytes(bytes: [u8; 4]) -> Frame
-        ensures { result ≡ frame_of bytes }
-    {
+impl From<[u8; 4]> for Frame {
+    ghost from_gives = { λ bytes frame. frame ≡ frame_of bytes };
+
+    fn from(bytes: [u8; 4]) -> Frame {
         let [a, b, c, d] = bytes;
         Frame {
             left: i16::from_le_bytes([a, b]),

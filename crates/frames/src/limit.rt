@@ -5,11 +5,5 @@ ghost use Rattle.frames.specs.Samples.{limited};
 pub fn limit(sum: i64) -> i16
     ensures { result ≡ limited sum }
 {
-    if sum > 32767 {
-        32767
-    } else if sum < -32768 {
-        -32768
-    } else {
-        sum as i16
-    }
+    sum.clamp(-32768, 32767) as i16
 }

@@ -22,21 +22,14 @@ impl Frame {
     }
 }
 
-// Mixes frame `i` into the area.
-fn mix_at(area: &mut [Frame], frames: &[Frame], i: usize)
-    requires area { i < length area.old }
-    requires frames { i < length frames.now }
-    ensures { area.new ≡ slice_set area.old i (mixed (slice_index_or area.old i silence) (slice_index_or frames.now i silence)) }
-{
-    area[i] = area[i].mix(frames[i]);
-}
-
 // Mixes the frames into the area from its start. What one of the two has beyond the other is left alone.
 pub fn mix_into(area: &mut [Frame], frames: &[Frame])
     ensures { area.new ≡ mixed_all area.old frames.now }
 {
-    let count = area.len().min(frames.len());
-    for i in 0..count {
-        mix_at(area, frames, i);
+    for (i, place) in area.iter_mut().enumerate() {
+        let Some(frame) = frames.get(i) else {
+            return;
+        };
+        *place = place.mix(*frame);
     }
 }

@@ -1,9 +1,11 @@
 // The weighted sum of a filter, over as many products each time.
 ghost use Rattle.std.specs.Prelude.{◌≡◌, ◌*◌, ◌^◌, ◌<◌, ◌≤◌, ◌∷◌, length, pos, ◌+ℤ◌, ◌*ℤ◌, unsigned_abs};
 ghost use Rattle.frames.specs.Filter.{weighted, filtered_sample};
+ghost use Rattle.frames.specs.Filters.{weights};
 ghost use Rattle.frames.specs.Mirror.{recent};
 ghost use Rattle.frames.specs.Samples.{floor_div, limited};
 
+use crate::filter::Filter;
 use crate::limit::limit;
 
 fn product(tap: i16, sample: i16) -> i64
@@ -14,15 +16,14 @@ fn product(tap: i16, sample: i16) -> i64
 }
 
 // The sum over 32 taps and as many samples.
-fn weigh(taps: &[i16], samples: &[i16]) -> i64
-    requires taps { length taps.now ≡ 32 }
-    requires samples { length samples.now ≡ 32 }
+fn weigh(taps: &[i16; 32], samples: &[i16]) -> i64
+    requires { length samples.now ≡ 32 }
     ensures value { result ≡ weighted taps.now samples.now }
     ensures bound { unsigned_abs result ≤ 32 * 2 ^ 30 }
 {
     let mut sum: i64 = 0;
-    for i in 0..32 {
-        sum += product(taps[i], samples[i]);
+    for (tap, sample) in taps.iter().zip(samples) {
+        sum += product(*tap, *sample);
     }
     sum
 }
@@ -35,12 +36,12 @@ fn round(sum: i64) -> i16
     limit((sum + 16384) >> 15)
 }
 
-// The sample that comes out where `input` goes in, after the 32 that are read from place `from` on.
-pub(crate) fn filter_sample(first: i16, later: &[i16], input: i16, line: &[i16], from: usize) -> i16
-    requires taps { length later.now ≡ 32 }
-    requires line { length line.now ≡ 64 }
-    requires within { from < 32 }
-    ensures { result ≡ filtered_sample (first ∷ later.now) (input ∷ recent from line.now) }
-{
-    round(product(first, input) + weigh(later, &line[from..from + 32]))
+impl Filter {
+    // The sample that comes out of a channel where `input` goes in, after those that the line holds of it.
+    pub(crate) fn sample(&self, input: i16, channel: &[i16; 64]) -> i16
+        ensures { result ≡ filtered_sample (weights self.now) (input ∷ recent self.now.line.newest channel.now) }
+    {
+        let newest = self.line.newest;
+        round(product(self.first, input) + weigh(&self.later, &channel[newest..newest + 32]))
+    }
 }

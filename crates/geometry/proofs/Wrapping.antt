@@ -1,15 +1,11 @@
 -- Sums that wrap at a boundary.
 use Rattle.std.proofs.Common.{◌≡◌, ℕ, ◌+◌, ◌-◌, ◌*◌, ◌/◌, ◌%◌, ◌<◌, ◌≤◌, sym, ap, ◌∙◌, mod-lt, mod-eq_of_lt, add-mul, div-add-mod', arith}
-use native.Mathlib.Nat.{mod-mod, mod-add-mod, add-mul-mod_self_right, add-mod_right, mod-mod_of_dvd, dvd_of_mod-eq-zero}
+use native.Mathlib.Nat.{mod-mod, mod-add-mod, add-mul-mod_self_right, mod-mod_of_dvd, dvd_of_mod-eq-zero}
 use Rattle.std.proofs.lemmas.Nat.{le-div}
 use Rattle.geometry.specs.Boundary.{boundary_for}
 use Rattle.geometry.specs.Laws.{Size}
 use Rattle.geometry.specs.Pointers.{pointer_of, place_of, playback_avail, capture_avail}
 use Rattle.geometry.proofs.Doubling.{boundary_wraps}
-
--- a number that has passed the boundary once wraps to what is past it
-pub mod_past : (n b : ℕ) → b ≤ n → (n - b) % b ≡ n % b
-mod_past n b h = sym (add-mod_right (n - b) b) ∙ ap (λ (x : ℕ). x % b) (omega arith)
 
 -- two numbers that are whole boundaries apart
 pub mod_apart : (x y k b : ℕ) → x ≡ y + k * b → x % b ≡ y % b

@@ -1,12 +1,26 @@
 // Entries of the ledger, written and taken.
-ghost use Rattle.std.specs.Prelude.{◌≡◌, None};
+ghost use Rattle.std.specs.Prelude.{◌≡◌, ◌<◌, None, nat_le, OnOk};
+ghost use Rattle.codes.specs.declared.refusal.Refusal.TheVariants.{LedgerFull};
+ghost use Rattle.calls.specs.Checks.{refused_if};
 ghost use Rattle.ring.specs.Rings.{GivesUp};
 ghost use Rattle.ledger.specs.LedgerSpans.{numbers_of, FitsIn, Whole};
 ghost use Rattle.account.specs.Ledgers.{noted, with_noted, with_taken, oldest_of};
 
 use calls::entry::Entry;
+use codes::refusal::Refusal;
 use ring::ring::Ring;
 use ring::span::Span;
+
+// A ledger with no room for another entry is refused.
+pub fn check_room(span: &Span) -> Result<(), Refusal>
+    ensures answer { result ≡ refused_if (nat_le span.now.size span.now.count) LedgerFull }
+    ensures room { OnOk result (span.now.count < span.now.size) }
+{
+    if span.is_full() {
+        return Err(Refusal::LedgerFull);
+    }
+    Ok(())
+}
 
 // Writes an entry that is due, if one is, at the newest end of the ledger. Where there is no room for it, or the memory
 // is not the ledger's, nothing changes.

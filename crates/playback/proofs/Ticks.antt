@@ -1,6 +1,5 @@
 -- What a tick of a playback stream did, from what became of its offers.
-use Rattle.std.proofs.Common.{◌≡◌, ℕ, ◌+◌, ◌/◌, ◌%◌, ◌<◌, ◌≤◌, Bool, true, false, not, eqb, ltb, List, length, take, Some, None, Option, sym, ap, ◌∙◌, subst, inl, inr, div-mul-le_self, arith}
-use Rattle.std.proofs.lemmas.Nat.{le-div}
+use Rattle.std.proofs.Common.{◌≡◌, ℕ, ◌%◌, ◌<◌, ◌≤◌, Bool, true, false, not, eqb, ltb, List, length, take, Some, None, Option, sym, ap, ◌∙◌, subst, inl, inr, arith, Ok}
 use Rattle.std.proofs.lemmas.Bool.{lt-leb, cases_eq, cases_lt, eq-eqb, ne_eqb, lt-ltb, le-ltb, cond-true, cond-false}
 use Rattle.codes.specs.declared.state.State.{State}
 use Rattle.frames.specs.declared.frame.Frame.{Frame}
@@ -8,10 +7,10 @@ use Rattle.ring.specs.Held.{held}
 use Rattle.ring.specs.Spans.{holds}
 use Rattle.sinks.specs.declared.stop.Stop.{Stop}
 use Rattle.sinks.specs.Sink.{SinkPoints, Offers}
-use Rattle.calls.specs.declared.answer.Answer.{Answer}
-use Rattle.calls.specs.declared.answer.Answer.TheVariants.{Ticked}
+use Rattle.calls.specs.Answers.{Answer}
+use Rattle.calls.specs.declared.answer.Outcome.TheVariants.{Ticked}
 use Rattle.calls.specs.declared.verdict.CallKind.TheVariants as call
-use Rattle.calls.specs.declared.verdict.Verdict.TheVariants.{Move}
+use Rattle.calls.specs.declared.verdict.Effect.TheVariants.{Move}
 use Rattle.calls.specs.declared.entry.Entry.{Entry}
 use Rattle.playback.specs.declared.playback.Playback.{Playback}
 use Rattle.playback.specs.declared.playing.Gone.{Gone}
@@ -31,9 +30,6 @@ if_true b A B e a = subst (λ (x : Bool). If x A B) (sym e) a
 
 if_false : (b : Bool) (A B : Type 0) → b ≡ false → B → If b A B
 if_false b A B e a = subst (λ (x : Bool). If x A B) (sym e) a
-
-pub div_grows : (c n d : ℕ) → 0 < d → c / d ≤ (c + n) / d
-div_grows c n d h = let below = div-mul-le_self c d in le-div (c / d) (c + n) d h (omega (arith, below))
 
 pub holds_waiting : (s : Playback) (m : List Frame) → holds s.frames m ≡ waiting_frames (book_of s) m
 holds_waiting s m = ap (λ (o : ℕ). held o s.frames.count m) s.ring.1 ∙ ap (λ (n : ℕ). held (s.oldest % s.geometry.buffer) n m) s.ring.2
@@ -74,7 +70,7 @@ module _ {S : Type 0} (p : SinkPoints S) where
       → state ≡ after_tick (book_of s) k r.went → n ≡ periods s.geometry.period s.oldest r.went
       → due ≡ entry_of (book_of s) k r.went r.stop
       → b' ≡ advanced (book_of s) state r.went due → es' ≡ noted (numbers_of s.ledger) es due
-      → Played p (book_of s) sink m es k (Ticked (record { frames = r.went; state = state; periods = n })) b' t es'
+      → Played p (book_of s) sink m es k (Ok (Ticked (record { frames = r.went; state = state; periods = n }))) b' t es'
   played s m es es' sink t k r state n due b' fits plays is_state is-periods is-due is-book is-ledger =
       let b : Book = book_of s in
       let long = length_waiting s m fits in
@@ -85,14 +81,14 @@ module _ {S : Type 0} (p : SinkPoints S) where
         there = gone_within s m sink t k r fits plays;
         offered = subst (λ (z : List Frame). Offers p sink (take r.went z) t) (holds_waiting s m) plays.offered;
         stopped = stopped_at k r.went _ (waits b) r.stop t long plays.ended;
-        answer = λ i. Ticked (record { frames = r.went; state = is_state i; periods = is-periods i });
+        answer = λ i. Ok (Ticked (record { frames = r.went; state = is_state i; periods = is-periods i }));
         stream = is-book ∙ (λ i. advanced b (is_state i) r.went (entry i));
         ledger = is-ledger ∙ ap (noted (numbers_of s.ledger) es) entry;
       }
 
   -- where no reason to refuse stands and the state moves frames, the tick played
   pub ticks_played : (b : Book) (sink : S) (m : List Frame) (es : List Entry) (k : ℕ) (r : Answer) (b' : Book) (t : S) (es' : List Entry)
-      → length m ≡ b.geometry.buffer → length es ≡ b.geometry.ledger → decides b call.Tick ≡ Move → b.ledger.count < b.ledger.size
+      → length m ≡ b.geometry.buffer → length es ≡ b.geometry.ledger → decides b call.Tick ≡ Ok Move → b.ledger.count < b.ledger.size
       → Played p b sink m es k r b' t es' → Ticks p b sink m es k r b' t es'
   ticks_played b sink m es k r b' t es' fits ledger move room done =
       if_false (not (eqb (length m) b.geometry.buffer)) _ _ (ap not (eq-eqb (length m) b.geometry.buffer fits))

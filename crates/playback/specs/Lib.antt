@@ -1,3 +1,4 @@
 pub mod Playing
 pub mod PlaybackBook
 pub mod PlaybackTicks
+pub mod Situations

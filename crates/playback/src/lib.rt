@@ -5,3 +5,4 @@
 pub mod lease;
 pub mod playback;
 mod playing;
+pub mod situation;

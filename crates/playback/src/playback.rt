@@ -10,18 +10,17 @@ use ring::span::Span;
 
 mod advancing;
 mod deciding;
+mod elsewhere;
 mod emptying;
 mod leasing;
 mod questions;
-mod stepping;
 mod taking;
-mod telling;
 mod ticking;
-pub mod trying;
 mod turning;
 mod writing;
 
 // It holds numbers only; frame memory, ledger memory and sink are lent to each call that takes them.
+// Contracts see it by `book_of` and not by a model: those of its private functions also name what the book leaves out, its spans.
 #[derive(Drop)]
 pub struct Playback {
     geometry: Geometry,

@@ -20,8 +20,7 @@ pub(crate) fn play<S: Sink>(sink: &mut S, span: &Span, memory: &[Frame], k: u32)
     requires { length memory.now ≡ span.now.size }
     ensures { Plays S.Sink.shows sink.old (holds span.now memory.now) k result sink.new }
 {
-    let mut went = 0;
-    while went < k {
+    for went in 0..k {
         let Some(frame) = span.element(memory, went) else {
             return Gone { went, stop: None };
         };
@@ -31,7 +30,9 @@ pub(crate) fn play<S: Sink>(sink: &mut S, span: &Span, memory: &[Frame], k: u32)
                 stop: Some(stop),
             };
         }
-        went += 1;
     }
-    Gone { went, stop: None }
+    Gone {
+        went: k,
+        stop: None,
+    }
 }

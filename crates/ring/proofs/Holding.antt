@@ -1,5 +1,5 @@
 -- The elements that a ring holds.
-use Rattle.std.proofs.Common.{◌≡◌, ℕ, ◌+◌, ◌-◌, ◌%◌, ◌<◌, ◌≤◌, List, [], ◌∷◌, ◌++◌, length, get_or, take, drop, set, sym, refl, ap, ◌∙◌, inl, inr, add_assoc, mod-lt, arith}
+use Rattle.std.proofs.Common.{◌≡◌, ℕ, ◌+◌, ◌-◌, ◌%◌, ◌<◌, ◌≤◌, List, [], ◌∷◌, ◌++◌, length, get_or, take, drop, set, sym, ap, ◌∙◌, inl, inr, add_assoc, mod-lt, arith}
 use native.Mathlib.Nat.{mod-add-mod}
 use Rattle.std.proofs.lemmas.List.{length-drop, length-append, length-set, length_push, length-take-le, get_or-take, get_or-drop, get_or_append_left, get_or-append_right, get_or-set_same, get_or-set_other, get_or_push, same_lists, take-append-le, drop_more}
 use Rattle.std.proofs.lemmas.Bool.{cases_lt, cases_eq}
@@ -103,9 +103,6 @@ module _ {T : Type 0} where
       → (length (held o c m) ≡ c) × ((i : ℕ) (d : T) → i < c → get_or (held o c m) i d ≡ get_or m ((o + i) % size) d)
   held_places size o c m e h l = (length_held o c m (omega arith) (omega arith), get_or_held size o c m e h l)
 
-  pub held_none : (place : ℕ) (m : List T) → held place 0 m ≡ []
-  held_none place m = refl
-
   -- an unbroken area of the memory
   pub held_area : (o n : ℕ) (m : List T) → o + n ≤ length m → held o n m ≡ take n (drop o m)
   held_area o n m h = take-append-le n (drop o m) (take o m) (omega (arith, length-drop o m))
@@ -119,17 +116,6 @@ module _ {T : Type 0} where
       ap (λ n. held o n m) all
       ∙ held_more size o 1 (c - 1) m e h (omega arith)
       ∙ ap (λ z. z ++ held ((o + 1) % size) (c - 1) m) one
-
-  -- the oldest as it was read
-  pub held_read : (size o c : ℕ) (m : List T) (x : T) → length m ≡ size → o < size → c ≤ size → 0 < c → x ≡ get_or m o x
-      → held o c m ≡ x ∷ held ((o + 1) % size) (c - 1) m
-  held_read size o c m x e h l k r =
-      held_oldest size o c m x e h l k ∙ ap (λ y. y ∷ held ((o + 1) % size) (c - 1) m) (sym r)
-
-  pub held_front : (size o c : ℕ) (m : List T) (x : T) → length m ≡ size → o < size → c ≤ size → 0 < c → x ≡ get_or m o x
-      → held o c m ≡ x ∷ drop 1 (held o c m)
-  held_front size o c m x e h l k r =
-      held_read size o c m x e h l k r ∙ ap (λ y. x ∷ y) (held_free size o c 1 m e h l k)
 
   -- an element as it was read at its place
   pub held_at : (size o c i place : ℕ) (m : List T) (x : T) → length m ≡ size → o < size → c ≤ size → i < c → place ≡ (o + i) % size → x ≡ get_or m place x

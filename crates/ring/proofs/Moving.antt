@@ -1,23 +1,24 @@
 -- What the answers of a ring mean, for its callers.
-use Rattle.std.proofs.Common.{◌≡◌, ℕ, ◌+◌, ◌-◌, ◌%◌, ◌≤◌, Bool, true, false, List, ◌∷◌, ◌++◌, drop, Some, MatchBool, sym, ap, ◌∙◌, subst, arith}
+use Rattle.std.proofs.Common.{◌≡◌, ℕ, ◌+◌, ◌-◌, ◌%◌, ◌≤◌, Ok, Err, Result, List, ◌∷◌, drop, Some, sym, ap, ◌∙◌, subst, arith}
+use Rattle.ring.specs.declared.does_not_fit.DoesNotFit.{DoesNotFit}
 use Rattle.ring.specs.declared.span.Span.{Span}
 use Rattle.ring.specs.Held.{held}
-use Rattle.ring.specs.Spans.{Has, next_of, holds}
+use Rattle.ring.specs.Spans.{Has, holds}
 use Rattle.ring.specs.Moves.{Frees, TakesIn}
 use Rattle.ring.specs.Rings.{Fits, Reads, GivesUp}
-use Rattle.ring.proofs.Holding.{held_free, held_more}
+use Rattle.ring.proofs.Holding.{held_free}
 
 -- enough elements can be freed
-pub freed : (r : Bool) (s : Span) (n : ℕ) (t : Span) → n ≤ s.count → Frees r s n t
+pub freed : (r : Result Unit DoesNotFit) (s : Span) (n : ℕ) (t : Span) → n ≤ s.count → Frees r s n t
     → Has t s.size ((s.oldest + n) % s.size) (s.count - n)
-freed true s n t h f = f.1
-freed false s n t h f = absurd (omega (arith, f.0))
+freed (Ok u) s n t h f = f.1
+freed (Err d) s n t h f = absurd (omega (arith, f.0))
 
 -- enough free places can be taken in
-pub taken_in : (r : Bool) (s : Span) (n : ℕ) (t : Span) → s.count + n ≤ s.size → TakesIn r s n t
+pub taken_in : (r : Result Unit DoesNotFit) (s : Span) (n : ℕ) (t : Span) → s.count + n ≤ s.size → TakesIn r s n t
     → Has t s.size s.oldest (s.count + n)
-taken_in true s n t h f = f.1
-taken_in false s n t h f = absurd (omega (arith, f.0))
+taken_in (Ok u) s n t h f = f.1
+taken_in (Err d) s n t h f = absurd (omega (arith, f.0))
 
 module _ {T : Type 0} where
   -- the same numbers mark the same elements
@@ -31,26 +32,9 @@ module _ {T : Type 0} where
       holds_has t s.size ((s.oldest + n) % s.size) (s.count - n) m l
       ∙ held_free s.size s.oldest s.count n m e s.within.0 s.within.1 h
 
-  -- the elements after n places were taken in
-  pub holds_taken : (s t : Span) (n : ℕ) (m : List T) → Fits s m → s.count + n ≤ s.size → Has t s.size s.oldest (s.count + n)
-      → holds t m ≡ holds s m ++ held (next_of s) n m
-  holds_taken s t n m e h l =
-      holds_has t s.size s.oldest (s.count + n) m l ∙ held_more s.size s.oldest s.count n m e s.within.0 h
-
   -- the oldest, read and then freed
-  pub given_up : (r : Bool) (s : Span) (n : ℕ) (t : Span) (m : List T) (x : T) → Reads (Some x) s m → Frees r s n t → n ≡ 1 → GivesUp (Some x) s m t
+  pub given_up : (r : Result Unit DoesNotFit) (s : Span) (n : ℕ) (t : Span) (m : List T) (x : T) → Reads (Some x) s m → Frees r s n t → n ≡ 1 → GivesUp (Some x) s m t
   given_up r s n t m x o f e =
       let g : Frees r s 1 t = subst (λ k. Frees r s k t) e f in
       let l = freed r s 1 t o.1 g in
       (o.0, o.1, l, o.2 ∙ ap (λ y. x ∷ y) (sym (holds_freed s t 1 m o.0 o.1 l)))
-
-  -- the elements by the answer of a move
-  pub frees_elements : (r : Bool) (s : Span) (n : ℕ) (t : Span) (m : List T) → Frees r s n t → Fits s m
-      → MatchBool r (holds t m ≡ drop n (holds s m)) (holds t m ≡ holds s m)
-  frees_elements true s n t m f e = holds_freed s t n m e f.0 f.1
-  frees_elements false s n t m f e = holds_has t s.size s.oldest s.count m f.1
-
-  pub takes_in_elements : (r : Bool) (s : Span) (n : ℕ) (t : Span) (m : List T) → TakesIn r s n t → Fits s m
-      → MatchBool r (holds t m ≡ holds s m ++ held (next_of s) n m) (holds t m ≡ holds s m)
-  takes_in_elements true s n t m f e = holds_taken s t n m e f.0 f.1
-  takes_in_elements false s n t m f e = holds_has t s.size s.oldest s.count m f.1

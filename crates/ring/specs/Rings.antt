@@ -5,7 +5,8 @@
 -- ReadsAt: the i-th element is read, where the oldest is the 0th.
 -- GivesUp: the oldest element is given up, so that the span is t.
 -- Assumes nothing.
-use Rattle.std.specs.Prelude.{◌≡◌, ℕ, ◌+◌, ◌-◌, ◌%◌, ◌<◌, Bool, true, false, List, [], ◌∷◌, ◌++◌, length, drop, Some, None, Option, slice_index_or, slice_set}
+use Rattle.std.specs.Prelude.{◌≡◌, ℕ, ◌+◌, ◌-◌, ◌%◌, ◌<◌, Ok, Err, Result, List, [], ◌∷◌, ◌++◌, length, drop, Some, None, Option, slice_index_or, slice_set}
+use Rattle.ring.specs.declared.does_not_fit.DoesNotFit.{DoesNotFit}
 use Rattle.ring.specs.declared.span.Span.{Span}
 use Rattle.ring.specs.Spans.{Has, Same, next_of, holds}
 
@@ -13,14 +14,14 @@ module _ {T : Type 0} where
   abbrev pub Fits : Span → List T → Type 0
   Fits s m = length m ≡ s.size
 
-  abbrev pub Adds : Bool → Span → List T → T → Span → List T → Type 0
-  Adds true s m x t n =
+  abbrev pub Adds : Result Unit DoesNotFit → Span → List T → T → Span → List T → Type 0
+  Adds (Ok u) s m x t n =
       Fits s m
       × (s.count < s.size)
       × (n ≡ slice_set m (next_of s) x)
       × Has t s.size s.oldest (s.count + 1)
       × (holds t n ≡ holds s m ++ x ∷ [])
-  Adds false s m x t n = (Fits s m → s.count < s.size → ⊥) × (n ≡ m) × Same s t
+  Adds (Err e) s m x t n = (Fits s m → s.count < s.size → ⊥) × (n ≡ m) × Same s t
 
   abbrev pub Reads : Option T → Span → List T → Type 0
   Reads (Some x) s m = Fits s m × (0 < s.count) × (holds s m ≡ x ∷ drop 1 (holds s m))

@@ -4,5 +4,6 @@
 // A ring has at least one place, and its size is a u32. Nothing is done over a memory of another length than the size.
 #![tactic(auto)]
 
+pub mod does_not_fit;
 pub mod ring;
 pub mod span;

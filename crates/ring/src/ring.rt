@@ -3,6 +3,7 @@ use crate::span::Span;
 
 mod calls;
 pub mod laws;
+mod loans;
 
 // It holds the memory for as long as it is used; the span is handed back to its owner by `span`.
 #[derive(Drop)]

@@ -1,7 +1,7 @@
 // Where the elements of a ring lie in its memory.
 ghost use Rattle.std.specs.Prelude.{◌^◌, ◌<◌, ◌≤◌};
 
-pub(crate) mod elements;
+mod elements;
 mod moves;
 mod numbers;
 mod places;

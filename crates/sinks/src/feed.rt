@@ -17,14 +17,11 @@ pub fn offer_all<S: Sink>(sink: &mut S, frames: &[Frame]) -> Fed
     ensures { Feeds S.Sink.shows sink.old frames.now result sink.new }
 {
     for (i, frame) in frames.iter().enumerate() {
-        match sink.offer(*frame) {
-            Ok(()) => {}
-            Err(stop) => {
-                return Fed {
-                    taken: i,
-                    stop: Some(stop),
-                };
-            }
+        if let Err(stop) = sink.offer(*frame) {
+            return Fed {
+                taken: i,
+                stop: Some(stop),
+            };
         }
     }
     Fed {

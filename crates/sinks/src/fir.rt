@@ -6,34 +6,24 @@ ghost use Rattle.frames.specs.Filters.{taps_of, makes_of, output_of, Pushed, wei
 ghost use Rattle.sinks.specs.Stops.{passed_up};
 ghost use Rattle.sinks.specs.Rules.{lawful_chain, lawful_filter};
 
+use crate::layer::Layer;
 use crate::sink::Sink;
 use crate::stop::Stop;
 use frames::filter::Filter;
 use frames::frame::Frame;
 use frames::taps::TapSet;
 
-#[derive(Drop)]
-pub struct Fir<D: Sink> {
-    below: D,
-    filter: Filter,
-}
+pub type Fir<D> = Layer<D, Filter>;
 
 impl<D: Sink> Fir<D> {
     pub fn new(below: D, taps: TapSet) -> Fir<D>
         ensures below { result.below ≡ below }
-        ensures filter { (fs : List Moment) → makes_of result.filter fs ≡ filtered (taps_of taps) [] [] fs }
+        ensures filter { (fs : List Moment) → makes_of result.effect fs ≡ filtered (taps_of taps) [] [] fs }
     {
-        Fir {
+        Layer {
             below,
-            filter: Filter::new(taps),
+            effect: Filter::new(taps),
         }
-    }
-
-    pub fn into_below(self) -> D
-        ensures { result ≡ self.below }
-    {
-        let Fir { below, filter: _ } = self;
-        below
     }
 }
 
@@ -41,24 +31,22 @@ impl<D: Sink> Sink for Fir<D> {
     ghost shows = { record {
       heard = λ s. D.Sink.shows.heard s.below;
       allowance = λ s. D.Sink.shows.allowance s.below;
-      makes = λ s fs. D.Sink.shows.makes s.below (makes_of s.filter fs);
+      makes = λ s fs. D.Sink.shows.makes s.below (makes_of s.effect fs);
       stop = λ s. passed_up (D.Sink.shows.stop s.below);
-      takes = λ s f t. D.Sink.shows.takes s.below (output_of s.filter f) t.below × Pushed s.filter f t.filter;
-      healed = λ s t. D.Sink.shows.healed s.below t.below × (t.filter ≡ s.filter);
+      takes = λ s f t. D.Sink.shows.takes s.below (output_of s.effect f) t.below × Pushed s.effect f t.effect;
+      healed = λ s t. D.Sink.shows.healed s.below t.below × (t.effect ≡ s.effect);
     } };
 
     ghost lawful = { λ s.
-        lawful_chain (D.Sink.shows.makes s.below) (makes_of s.filter) (D.Sink.lawful s.below)
-        (lawful_filter (weights s.filter) (earlier_left s.filter) (earlier_right s.filter)) };
+        lawful_chain (D.Sink.shows.makes s.below) (makes_of s.effect) (D.Sink.lawful s.below)
+        (lawful_filter (weights s.effect) (earlier_left s.effect) (earlier_right s.effect)) };
 
     fn offer(&mut self, frame: Frame) -> Result<(), Stop> {
-        match self.below.offer(self.filter.output(frame)) {
-            Ok(()) => {
-                self.filter.push(frame);
-                Ok(())
-            }
-            Err(stop) => Err(stop.passed_up()),
-        }
+        self.below
+            .offer(self.effect.output(frame))
+            .map_err(Stop::passed_up)?;
+        self.effect.push(frame);
+        Ok(())
     }
 
     fn allowance(&self) -> u32 {

@@ -4,28 +4,27 @@ ghost use Rattle.frames.specs.Samples.{gained_all, gained};
 ghost use Rattle.sinks.specs.Stops.{passed_up};
 ghost use Rattle.sinks.specs.Rules.{lawful_chain, lawful_gain};
 
+use crate::layer::Layer;
 use crate::sink::Sink;
 use crate::stop::Stop;
 use frames::frame::Frame;
 
-#[derive(Drop)]
-pub struct Gain<D: Sink> {
-    below: D,
+// Gain by q / 256.
+#[derive(Clone, Copy)]
+pub struct Volume {
     q: u16,
 }
 
+pub type Gain<D> = Layer<D, Volume>;
+
 impl<D: Sink> Gain<D> {
     pub fn new(below: D, q: u16) -> Gain<D>
-        ensures { (result.below ≡ below) × (result.q ≡ q) }
+        ensures { (result.below ≡ below) × (result.effect.q ≡ q) }
     {
-        Gain { below, q }
-    }
-
-    pub fn into_below(self) -> D
-        ensures { result ≡ self.below }
-    {
-        let Gain { below, q: _ } = self;
-        below
+        Layer {
+            below,
+            effect: Volume { q },
+        }
     }
 }
 
@@ -33,19 +32,18 @@ impl<D: Sink> Sink for Gain<D> {
     ghost shows = { record {
       heard = λ s. D.Sink.shows.heard s.below;
       allowance = λ s. D.Sink.shows.allowance s.below;
-      makes = λ s fs. D.Sink.shows.makes s.below (gained_all s.q fs);
+      makes = λ s fs. D.Sink.shows.makes s.below (gained_all s.effect.q fs);
       stop = λ s. passed_up (D.Sink.shows.stop s.below);
-      takes = λ s f t. D.Sink.shows.takes s.below (gained s.q f) t.below × (t.q ≡ s.q);
-      healed = λ s t. D.Sink.shows.healed s.below t.below × (t.q ≡ s.q);
+      takes = λ s f t. D.Sink.shows.takes s.below (gained s.effect.q f) t.below × (t.effect.q ≡ s.effect.q);
+      healed = λ s t. D.Sink.shows.healed s.below t.below × (t.effect.q ≡ s.effect.q);
     } };
 
-    ghost lawful = { λ s. lawful_chain (D.Sink.shows.makes s.below) (gained_all s.q) (D.Sink.lawful s.below) (lawful_gain s.q) };
+    ghost lawful = { λ s. lawful_chain (D.Sink.shows.makes s.below) (gained_all s.effect.q) (D.Sink.lawful s.below) (lawful_gain s.effect.q) };
 
     fn offer(&mut self, frame: Frame) -> Result<(), Stop> {
-        match self.below.offer(frame.gain(self.q)) {
-            Ok(()) => Ok(()),
-            Err(stop) => Err(stop.passed_up()),
-        }
+        self.below
+            .offer(frame.gain(self.effect.q))
+            .map_err(Stop::passed_up)
     }
 
     fn allowance(&self) -> u32 {

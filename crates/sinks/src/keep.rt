@@ -5,65 +5,52 @@ ghost use Rattle.sinks.specs.Keeps.{keep_allowance, TakesBelow};
 ghost use Rattle.sinks.specs.Stops.{passed_up};
 ghost use Rattle.sinks.specs.Rules.{lawful_chain, lawful_keep};
 
+use crate::layer::Layer;
 use crate::sink::Sink;
 use crate::stop::Stop;
 use frames::factor::{Factor, Keeper};
 use frames::frame::Frame;
 
-#[derive(Drop)]
-pub struct Keep<D: Sink> {
-    below: D,
-    keeper: Keeper,
-}
+pub type Keep<D> = Layer<D, Keeper>;
 
 impl<D: Sink> Keep<D> {
     pub fn new(below: D, factor: Factor) -> Keep<D>
-        ensures { (result.below ≡ below) × (result.keeper.every ≡ factor.every) × (result.keeper.fall ≡ 0) }
+        ensures { (result.below ≡ below) × (result.effect.factor ≡ factor) × (result.effect.fall ≡ 0) }
     {
-        Keep {
+        Layer {
             below,
-            keeper: Keeper::new(factor),
+            effect: Keeper::new(factor),
         }
-    }
-
-    pub fn into_below(self) -> D
-        ensures { result ≡ self.below }
-    {
-        let Keep { below, keeper: _ } = self;
-        below
     }
 }
 
 impl<D: Sink> Sink for Keep<D> {
     ghost shows = { record {
       heard = λ s. D.Sink.shows.heard s.below;
-      allowance = λ s. keep_allowance (D.Sink.shows.allowance s.below) s.keeper.every s.keeper.fall;
-      makes = λ s fs. D.Sink.shows.makes s.below (passing s.keeper fs);
+      allowance = λ s. keep_allowance (D.Sink.shows.allowance s.below) s.effect.factor.every s.effect.fall;
+      makes = λ s fs. D.Sink.shows.makes s.below (passing s.effect fs);
       stop = λ s. passed_up (D.Sink.shows.stop s.below);
-      takes = λ s f t. TakesBelow D.Sink.shows.takes s.keeper.fall s.below f t.below × Stepped s.keeper t.keeper;
-      healed = λ s t. D.Sink.shows.healed s.below t.below × (t.keeper ≡ s.keeper);
+      takes = λ s f t. TakesBelow D.Sink.shows.takes s.effect.fall s.below f t.below × Stepped s.effect t.effect;
+      healed = λ s t. D.Sink.shows.healed s.below t.below × (t.effect ≡ s.effect);
     } };
 
-    ghost lawful = { λ s. lawful_chain (D.Sink.shows.makes s.below) (passing s.keeper) (D.Sink.lawful s.below) (lawful_keep s.keeper.every s.keeper.fall) };
+    ghost lawful = { λ s. lawful_chain (D.Sink.shows.makes s.below) (passing s.effect) (D.Sink.lawful s.below) (lawful_keep s.effect.factor.every s.effect.fall) };
 
     fn offer(&mut self, frame: Frame) -> Result<(), Stop> {
-        if self.keeper.fall() > 0 {
-            self.keeper.step();
+        if self.effect.fall() > 0 {
+            self.effect.step();
             return Ok(());
         }
-        match self.below.offer(frame) {
-            Ok(()) => {
-                self.keeper.step();
-                Ok(())
-            }
-            Err(stop) => Err(stop.passed_up()),
-        }
+        self.below.offer(frame).map_err(Stop::passed_up)?;
+        self.effect.step();
+        Ok(())
     }
 
     fn allowance(&self) -> u32 {
-        let all = self.below.allowance() as u64 * self.keeper.every() as u64
-            + self.keeper.fall() as u64;
-        all.min(4_294_967_295) as u32
+        self.below
+            .allowance()
+            .saturating_mul(self.effect.every())
+            .saturating_add(self.effect.fall())
     }
 
     fn heal(&mut self) {

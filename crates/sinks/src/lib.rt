@@ -3,14 +3,15 @@
 #![tactic(auto)]
 
 pub mod byte_tape;
-mod capacity;
 pub mod fault;
 pub mod feed;
 pub mod fir;
 pub mod frame_tape;
 pub mod gain;
 pub mod keep;
+pub mod layer;
 mod marking;
 pub mod marks;
 pub mod sink;
 pub mod stop;
+mod tape;

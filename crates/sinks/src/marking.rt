@@ -1,24 +1,20 @@
 // The check of marks, and the count of frames up to the next one.
-ghost use Rattle.std.specs.Prelude.{◌≡◌, ◌<◌, ◌≤◌, false};
-ghost use Rattle.sinks.specs.Marks.{CheckedMarks, Counted, Lifted, capped, stands_at};
+ghost use Rattle.std.specs.Prelude.{◌≡◌, ◌<◌, ◌≤◌, false, if◌then◌else◌, Some, None};
+ghost use Rattle.sinks.specs.Marks.{CheckedMarks, Counted, Lifted, capped, stands_at, is_left, next_mark};
 
 use crate::marks::Marks;
 use codes::refusal::Refusal;
 
 impl Marks {
+    // Named `check` as every test of numbers handed in, and no TryFrom.
     pub fn check(list: &[u32]) -> Result<Marks, Refusal>
         ensures { CheckedMarks list.now result }
     {
-        if list.len() > 16 {
+        if list.len() > 16 || !list.is_sorted_by(|a, b| a < b) {
             return Err(Refusal::Layer);
         }
         let mut at = [0; 16];
-        for (i, mark) in list.iter().enumerate() {
-            if i > 0 && at[i - 1] >= *mark {
-                return Err(Refusal::Layer);
-            }
-            at[i] = *mark;
-        }
+        at[..list.len()].copy_from_slice(list);
         Ok(Marks {
             at,
             next: 0,
@@ -27,21 +23,27 @@ impl Marks {
         })
     }
 
+    // The next mark, if one is left.
+    fn next_mark(&self) -> Option<u32>
+        ensures { result ≡ (if is_left self.now then Some (next_mark self.now) else None) }
+    {
+        self.at[..self.end].get(self.next).copied()
+    }
+
     // Whether the frames taken have come to the next mark.
     pub fn stands(&self) -> bool
         ensures { result ≡ stands_at self.now }
     {
-        self.next < self.end && self.at[self.next] == self.taken
+        self.next_mark() == Some(self.taken)
     }
 
     // The lesser of an allowance and the frames up to the next mark.
     pub fn cap(&self, allowance: u32) -> u32
         ensures { result ≡ capped self.now allowance }
     {
-        if self.next < self.end {
-            allowance.min(self.at[self.next] - self.taken)
-        } else {
-            allowance
+        match self.next_mark() {
+            Some(mark) => allowance.min(mark - self.taken),
+            None => allowance,
         }
     }
 
@@ -50,7 +52,7 @@ impl Marks {
         requires { stands_at self.old ≡ false }
         ensures { Counted self.old self.new }
     {
-        if self.next < self.end {
+        if self.next_mark().is_some() {
             self.taken += 1;
         }
     }

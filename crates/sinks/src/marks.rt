@@ -1,4 +1,5 @@
-// The marks of a fault layer: at most 16, strictly rising.
+// The marks of a fault layer: at most 16, strictly rising. An array with a count, and no Vec: a layer allocates nothing,
+// and its marks are handed over by value.
 ghost use Rattle.std.specs.Prelude.{◌<◌, ◌≤◌, slice_index};
 ghost use Rattle.sinks.specs.Rising.{RisesTo};
 

@@ -16,8 +16,8 @@ impl Stop {
         ensures { result ≡ passed_up self }
     {
         Stop {
-            cause: self.cause,
             depth: self.depth.saturating_add(1),
+            ..self
         }
     }
 }

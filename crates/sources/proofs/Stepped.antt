@@ -1,5 +1,5 @@
 -- Steps taken one by one. Assumes nothing.
-use Rattle.std.proofs.Common.{◌≡◌, ℕ, zero, suc, ◌+◌, ◌∷◌, map, ℤ, pos, ◌+ℤ◌, ◌*ℤ◌, sym, refl, ap, ◌∙◌, subst, zero-add, add-one, w16, SFits}
+use Rattle.std.proofs.Common.{◌≡◌, ℕ, zero, suc, ◌+◌, ◌∷◌, map, ℤ, pos, ◌+ℤ◌, ◌*ℤ◌, sym, refl, ap, ◌∙◌, zero-add, add-one, w16, SFits}
 use lib.IntN.{+ℤ_assoc, +ℤ_comm, +ℤ_idr, suc_ℤ-*ℤ, zero-*ℤ}
 use Rattle.std.specs.List.{range_with_len}
 use Rattle.std.specs.Int.{int_wrap}
@@ -41,10 +41,5 @@ stepped v d n v' d' n' fits e =
     ∙ ap (λ z. both v ∷ steps z d n') (sym e.1)
     ∙ ap (λ z. both v ∷ steps v' z n') (sym e.2)
 
-steps_stand : (v d : ℤ) (n : ℕ) → Stepped v d n (steps v d n)
+pub steps_stand : (v d : ℤ) (n : ℕ) → Stepped v d n (steps v d n)
 steps_stand v d n = (length-map-range_with_len (step_frame v d) 0 n, λ i z h. get_or-map-range_with_len (step_frame v d) 0 n i i z h (zero-add i))
-
--- the same over the numbers that a source was made with
-pub steps_made : (v d : ℤ) (n : ℕ) (v' d' : ℤ) (n' : ℕ) → (n' ≡ n) × (v' ≡ v) × (d' ≡ d) → Stepped v d n (steps v' d' n')
-steps_made v d n v' d' n' e =
-    subst (λ fs. Stepped v d n fs) (ap (steps v d) (sym e.0) ∙ ap (λ z. steps z d n') (sym e.1) ∙ ap (λ z. steps v' z n') (sym e.2)) (steps_stand v d n)

@@ -11,9 +11,10 @@ fn frame_at(bytes: &[u8], at: usize) -> Frame
     requires { at + 3 < length bytes.now }
     ensures { result ≡ frame_of (slice_index bytes.now at ∷ slice_index bytes.now (at + 1) ∷ slice_index bytes.now (at + 2) ∷ slice_index bytes.now (at + 3) ∷ []) }
 {
-    Frame::from_bytes([bytes[at], bytes[at + 1], bytes[at + 2], bytes[at + 3]])
+    Frame::from([bytes[at], bytes[at + 1], bytes[at + 2], bytes[at + 3]])
 }
 
+// The bytes are given back whole, so the count stands beside them.
 #[derive(Drop)]
 pub struct ByteSource {
     memory: Vec<u8>,

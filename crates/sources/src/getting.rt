@@ -1,34 +1,9 @@
 // Frames from any source into a memory.
-ghost use Rattle.std.specs.Prelude.{◌≡◌, ◌<◌, ◌≤◌, [], ◌++◌, length, take, drop, slice_set};
+ghost use Rattle.std.specs.Prelude.{◌≡◌, ◌<◌, ◌≤◌, [], ◌++◌, length, take, drop};
 ghost use Rattle.sources.specs.Source.{Gives, ChainsJoin, ChainsTake};
 
 use crate::source::Source;
 use frames::frame::Frame;
-
-// Writes a frame at a place.
-fn place(into: &mut [Frame], at: usize, frame: Frame)
-    requires { at < length into.old }
-    ensures { into.new ≡ slice_set into.old at frame }
-{
-    into[at] = frame;
-}
-
-// The loop of `get_all`.
-fn fill<S: Source>(source: &mut S, into: &mut [Frame]) -> usize
-    ensures answer { (result ≤ length into.old) × (result < length into.old → S.Source.shows.coming source.new ≡ []) }
-    ensures memory { drop result into.new ≡ drop result into.old }
-    ensures rule { Gives S.Source.shows source.old (take result into.new) source.new }
-{
-    let mut count = 0;
-    while count < into.len() {
-        let Some(frame) = source.get() else {
-            return count;
-        };
-        place(into, count, frame);
-        count += 1;
-    }
-    count
-}
 
 // Gets frames until the memory is full or none comes, and says how many came.
 pub fn get_all<S: Source>(source: &mut S, into: &mut [Frame]) -> usize
@@ -37,7 +12,13 @@ pub fn get_all<S: Source>(source: &mut S, into: &mut [Frame]) -> usize
     ensures memory { drop result into.new ≡ drop result into.old }
     ensures rule { Gives S.Source.shows source.old (take result into.new) source.new }
 {
-    fill(source, into)
+    for (came, place) in into.iter_mut().enumerate() {
+        let Some(frame) = source.get() else {
+            return came;
+        };
+        *place = frame;
+    }
+    into.len()
 }
 
 // Of every source: gets that go on where others ended make one chain with them, and a chain takes its frames off the front.

@@ -1,18 +1,9 @@
 // A source of samples that rise in equal steps, the same in both channels.
-ghost use Rattle.std.specs.Prelude.{◌≡◌, ◌+◌, ◌%◌, ◌^◌, ◌<◌};
-ghost use Rattle.std.specs.Int.{w16};
-ghost use Rattle.std.proofs.Common.{to_z, of_z};
+ghost use Rattle.std.specs.Prelude.{◌≡◌, ◌<◌};
 ghost use Rattle.sources.specs.Stepping.{Advances, Stepped, step_points};
 
 use crate::source::Source;
 use frames::frame::Frame;
-
-// What the sum has beyond 16 bits is lost.
-fn add(sample: i16, step: i16) -> i16
-    ensures { result ≡ to_z w16 ((of_z w16 sample + of_z w16 step) % 2 ^ 16) }
-{
-    sample.wrapping_add(step)
-}
 
 #[derive(Drop)]
 pub struct StepSource {
@@ -29,24 +20,19 @@ impl StepSource {
         ensures state { (result.count ≡ n) × (result.sample ≡ v) × (result.step ≡ d) }
         ensures elements { Stepped v d n (step_points.coming result) }
     {
-        StepSource::from_sample(v, d, n)
-    }
-
-    fn from_sample(sample: i16, step: i16, count: u32) -> StepSource
-        ensures { (result.count ≡ count) × (result.sample ≡ sample) × (result.step ≡ step) }
-    {
         StepSource {
-            count,
-            sample,
-            step,
+            count: n,
+            sample: v,
+            step: d,
         }
     }
 
+    // What the sum has beyond 16 bits is lost.
     fn advance(&mut self)
         requires { 0 < self.old.count }
         ensures { Advances self.old self.new }
     {
-        self.sample = add(self.sample, self.step);
+        self.sample = self.sample.wrapping_add(self.step);
         self.count -= 1;
     }
 }

@@ -1,18 +1,15 @@
 -- Both streams with all that their calls are given.
---   table_of   as the account speaks of them
+--   table_of        as the account speaks of them
+--   SameLoans s t   the same streams, sink, source and memories are lent
 -- Assumes nothing.
-use Rattle.std.specs.Prelude.{List}
-use Rattle.frames.specs.declared.frame.Frame.{Frame}
-use Rattle.calls.specs.declared.entry.Entry.{Entry}
-use Rattle.account.specs.Promise.{Table}
-use Rattle.playback.specs.declared.playback.Playback.{Playback}
-use Rattle.capture.specs.declared.capture.Capture.{Capture}
-use Rattle.playback.specs.PlaybackBook as play
-use Rattle.capture.specs.CaptureBook as capt
+use Rattle.account.specs.Promise as promise
+use Rattle.playback.specs.Situations as play
+use Rattle.capture.specs.Situations as capt
+use Rattle.streams.specs.declared.table.Table.{Table}
 
-abbrev pub table_of : {S R : Type 0} → Playback → S → List Frame → List Entry → Capture → R → List Frame → List Entry → List Frame → Table S R
-table_of p sink memory ledger c source capture_memory capture_ledger host =
-    record {
-      playback = record { stream = play.book_of p; sink = sink; memory = memory; ledger = ledger };
-      capture = record { stream = capt.book_of c; source = source; memory = capture_memory; ledger = capture_ledger; host = host };
-    }
+abbrev pub table_of : {S R : Type 0} → Table S R → promise.Table S R
+table_of t = record { playback = play.situation_of t.playback; capture = capt.situation_of t.capture }
+
+pub record SameLoans {S R : Type 0} (s t : Table S R) : Type 0 where
+  pub playback : play.SameLoans s.playback t.playback
+  pub capture : capt.SameLoans s.capture t.capture

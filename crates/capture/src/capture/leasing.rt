@@ -1,15 +1,17 @@
 // Leases on the unread frames of a capture stream, granted and ended.
-ghost use Rattle.std.specs.Prelude.{◌≡◌, ◌+◌, ◌≤◌, true, None};
+ghost use Rattle.std.specs.Prelude.{◌≡◌, ◌+◌, ◌≤◌, not, None, OnOk};
+ghost use Rattle.codes.specs.declared.refusal.Refusal.TheVariants.{WrongLease};
+ghost use Rattle.calls.specs.Checks.{refused_if};
 ghost use Rattle.calls.specs.Lending.{holds};
 ghost use Rattle.account.specs.Areas.{Inside};
 ghost use Rattle.account.specs.Capture.{Begins, Commits, drained, read};
 ghost use Rattle.capture.specs.CaptureBook.{book_of};
-ghost use Rattle.calls.specs.Told.{told, told_lease};
+ghost use Rattle.calls.specs.Told.{told, told_lease, handed};
 
 use super::Capture;
 use crate::lease::{Lease, Seal};
-use calls::lease_parts::{LeaseParts, Lending};
-use calls::verdict::{CallKind, Verdict};
+use calls::lease_parts::LeaseParts;
+use calls::verdict::CallKind;
 use codes::refusal::Refusal;
 use codes::state::State;
 
@@ -18,41 +20,27 @@ impl Capture {
     pub fn begin(&mut self, wanted: u32) -> Result<Lease, Refusal>
         ensures { Begins (book_of self.old) wanted (told_lease result) (book_of self.new) }
     {
-        if self.lending.out.is_some() {
-            return Err(Refusal::LeaseOut);
-        }
-        if let Verdict::Refuse(why) = self.decide(CallKind::Begin) {
-            return Err(why);
-        }
+        self.lending.check_none_out()?;
+        self.decide(CallKind::Begin)?;
         if wanted == 0 {
             return Err(Refusal::Zero);
         }
         if self.unread == 0 {
             return Err(Refusal::Unavailable);
         }
-        let Some(number) = self.lending.granted.checked_add(1) else {
-            return Err(Refusal::Limit);
-        };
         let place = self.geometry.place(self.oldest);
-        let parts = LeaseParts {
-            tag: self.geometry.tag(),
-            number,
-            place,
-            length: self.geometry.area(wanted, self.unread, place),
-        };
-        self.lending = Lending {
-            granted: number,
-            out: Some(parts),
-        };
+        let length = self.geometry.area(wanted, self.unread, place);
+        let tag = self.geometry.tag();
+        let parts = self.lending.grant(tag, place, length)?;
         Ok(Lease::new(parts, Seal(())))
     }
 
-    // Whether this very lease is out. Its area has unread frames only.
-    pub(crate) fn lends(&self, lease: LeaseParts) -> bool
-        ensures answer { result ≡ holds self.now.lending.out lease }
-        ensures rule { result ≡ true → Inside lease self.now.geometry.buffer self.now.oldest (self.now.oldest + self.now.unread) }
+    // Only the lease that is out will do. Its area has unread frames only.
+    pub(crate) fn check_lends(&self, lease: LeaseParts) -> Result<(), Refusal>
+        ensures answer { result ≡ refused_if (not (holds self.now.lending.out lease)) WrongLease }
+        ensures rule { OnOk result (Inside lease self.now.geometry.buffer self.now.oldest (self.now.oldest + self.now.unread)) }
     {
-        self.lending.holds(lease)
+        self.lending.check_holds(lease)
     }
 
     // The state once n frames fewer are unread: a draining stream is set up again once none is.
@@ -73,8 +61,7 @@ impl Capture {
         ensures { book_of self.new ≡ read (book_of self.old) n }
     {
         self.state = self.drained(n);
-        // True, since as many are unread.
-        let _ = self.frames.free(n);
+        self.frames.free(n).unwrap();
         self.oldest += n;
         self.unread -= n;
     }
@@ -84,10 +71,8 @@ impl Capture {
         ensures { Commits (book_of self.old) lease.parts n (told result) (book_of self.new) }
     {
         let parts = lease.end(Seal(()));
-        if !self.lends(parts) {
-            return Err(Refusal::WrongLease);
-        }
-        if let Verdict::Refuse(why) = self.decide(CallKind::Commit) {
+        self.check_lends(parts)?;
+        if let Err(why) = self.decide(CallKind::Commit) {
             // In XRUN the lease has ended all the same.
             if let State::Xrun = self.state {
                 self.lending.out = None;
@@ -95,10 +80,16 @@ impl Capture {
             return Err(why);
         }
         self.lending.out = None;
-        if n > parts.length {
-            return Err(Refusal::Beyond);
-        }
+        parts.check_within(0, n as usize)?;
         self.read(n);
         Ok(())
+    }
+
+    // One line in both streams, since only a stream's own crate can make its seal.
+    // The lease that is out, in exchange for the one in hand, which is used up.
+    pub fn exchange(&self, hand: Option<Lease>) -> Option<Lease>
+        ensures { handed result ≡ self.now.lending.out }
+    {
+        self.lending.exchange(hand, Seal(()))
     }
 }

@@ -1,6 +1,6 @@
 // A capture stream's tick: frames come from its source.
-ghost use Rattle.std.specs.Prelude.{◌≡◌, ◌+◌, ◌^◌, ◌<◌, length};
-ghost use Rattle.calls.specs.declared.answer.Answer.TheVariants as answer;
+ghost use Rattle.std.specs.Prelude.{◌≡◌, ◌+◌, ◌^◌, ◌<◌, length, Ok};
+ghost use Rattle.calls.specs.declared.answer.Outcome.TheVariants as outcome;
 ghost use Rattle.account.specs.Capture.{Captured, Ticks, after_tick, filled, overrun};
 ghost use Rattle.capture.specs.CaptureBook.{book_of};
 ghost use Rattle.account.specs.Playback.{periods};
@@ -9,13 +9,14 @@ ghost use Rattle.calls.specs.Told.{told_tick};
 use super::Capture;
 use crate::storing::{Came, take_in};
 use calls::answer::Ticked;
+use calls::elsewhere::check_length;
 use calls::entry::Entry;
-use calls::verdict::{CallKind, Verdict};
+use calls::verdict::{CallKind, Effect};
 use codes::entry_kind::EntryKind;
 use codes::refusal::Refusal;
 use codes::state::State;
 use frames::frame::Frame;
-use ledger::noting::note;
+use ledger::noting::{check_room, note};
 use sources::source::Source;
 
 impl Capture {
@@ -55,16 +56,6 @@ impl Capture {
         })
     }
 
-    // The periods that the hardware passes as it stores n frames more.
-    fn periods(&self, n: u32) -> u32
-        requires { self.now.oldest + self.now.unread + n < 2 ^ 32 }
-        ensures { result ≡ periods self.now.geometry.period (self.now.oldest + self.now.unread) n }
-    {
-        let period = self.geometry.period();
-        let next = self.oldest + self.unread;
-        (next + n) / period - next / period
-    }
-
     // Gets at most k frames, stores those that the ring has room for, and says what is to be said.
     fn capture<R: Source>(
         &mut self,
@@ -77,14 +68,14 @@ impl Capture {
         requires ledger { length ledger.old ≡ self.old.ledger.size }
         requires room { self.old.ledger.count < self.old.ledger.size }
         requires limit { self.old.given + k < 2 ^ 32 }
-        ensures { Captured R.Source.shows (book_of self.old) source.old memory.old ledger.old k (answer.Ticked result) (book_of self.new) source.new memory.new ledger.new }
+        ensures { Captured R.Source.shows (book_of self.old) source.old memory.old ledger.old k (Ok (outcome.Ticked result)) (book_of self.new) source.new memory.new ledger.new }
     {
         let mut frames = self.frames;
         let came = take_in(source, &mut frames, memory, k);
         let ticked = Ticked {
             frames: came.kept,
             state: self.after_tick(came.kept),
-            periods: self.periods(came.kept),
+            periods: self.geometry.periods(self.oldest + self.unread, came.kept),
         };
         let due = self.overrun(came);
         note(&mut self.ledger, ledger, due);
@@ -105,13 +96,9 @@ impl Capture {
     ) -> Result<Ticked, Refusal>
         ensures { Ticks R.Source.shows (book_of self.old) source.old memory.old ledger.old k (told_tick result) (book_of self.new) source.new memory.new ledger.new }
     {
-        if memory.len() != self.geometry.buffer() as usize {
-            return Err(Refusal::Memory);
-        }
-        if ledger.len() != self.geometry.ledger() as usize {
-            return Err(Refusal::Memory);
-        }
-        let Verdict::Move = self.decide(CallKind::Tick) else {
+        check_length(memory, self.geometry.buffer())?;
+        check_length(ledger, self.geometry.ledger())?;
+        let Effect::Move = self.decide(CallKind::Tick)? else {
             return Ok(Ticked {
                 frames: 0,
                 state: self.state,
@@ -121,9 +108,7 @@ impl Capture {
         if k > u32::MAX - self.given {
             return Err(Refusal::Limit);
         }
-        if self.ledger.count() >= self.ledger.size() {
-            return Err(Refusal::LedgerFull);
-        }
+        check_room(&self.ledger)?;
         Ok(self.capture(source, memory, ledger, k))
     }
 }

@@ -1,4 +1,6 @@
 // A new capture stream, and the calls that change its state alone.
+// Both streams have these calls, each over its own table: a trait would have to name the table and book of each, and its impls
+// would be as long as the two lines here.
 ghost use Rattle.std.specs.Prelude.{◌≡◌};
 ghost use Rattle.calls.specs.declared.verdict.CallKind.TheVariants.{Start, Pause, Resume};
 ghost use Rattle.account.specs.Capture.{Drains, Turns};
@@ -8,7 +10,7 @@ ghost use Rattle.calls.specs.Told.{told};
 
 use super::Capture;
 use calls::lease_parts::Lending;
-use calls::verdict::{CallKind, Verdict};
+use calls::verdict::CallKind;
 use codes::refusal::Refusal;
 use codes::state::State;
 use geometry::geometry::Geometry;
@@ -25,10 +27,7 @@ impl Capture {
             given: 0,
             oldest: 0,
             unread: 0,
-            lending: Lending {
-                granted: 0,
-                out: None,
-            },
+            lending: Lending::default(),
             // A geometry has no empty ring.
             frames: Span::new(geometry.buffer()).unwrap(),
             ledger: Span::new(geometry.ledger()).unwrap(),
@@ -39,14 +38,8 @@ impl Capture {
     fn turn(&mut self, call: CallKind) -> Result<(), Refusal>
         ensures { Turns (book_of self.old) call (told result) (book_of self.new) }
     {
-        match self.decide(call) {
-            Verdict::Stay | Verdict::Move => Ok(()),
-            Verdict::Enter(state) => {
-                self.state = state;
-                Ok(())
-            }
-            Verdict::Refuse(why) => Err(why),
-        }
+        self.state = self.decide(call)?.state_after(self.state);
+        Ok(())
     }
 
     pub fn start(&mut self) -> Result<(), Refusal>
@@ -71,9 +64,7 @@ impl Capture {
     pub fn drain(&mut self) -> Result<(), Refusal>
         ensures { Drains (book_of self.old) (told result) (book_of self.new) }
     {
-        if self.lending.out.is_some() {
-            return Err(Refusal::LeaseOut);
-        }
+        self.lending.check_none_out()?;
         self.turn(CallKind::Drain)
     }
 }

@@ -25,7 +25,8 @@ fn boundary_of(buffer: u32) -> u32
 }
 
 impl Geometry {
-    // The threshold is one frame unless it is set.
+    // The threshold is one frame unless it is set. The five numbers stay five: they travel together nowhere else, and a
+    // struct of them would be written out by each caller and taken apart here at once.
     pub fn check(
         buffer: u32,
         period: u32,
@@ -35,17 +36,14 @@ impl Geometry {
     ) -> Result<Geometry, Refusal>
         ensures { Checked buffer period (starts_at threshold) ledger tag result }
     {
-        if buffer < 2 || buffer > 65536 {
+        if !(2..=65536).contains(&buffer) {
             return Err(Refusal::Geometry);
         }
         if period == 0 || period > buffer / 2 || buffer % period != 0 {
             return Err(Refusal::Geometry);
         }
-        let threshold = match threshold {
-            Some(frames) => frames,
-            None => 1,
-        };
-        if threshold == 0 || threshold > buffer || ledger == 0 || ledger > 65536 {
+        let threshold = threshold.unwrap_or(1);
+        if !(1..=buffer).contains(&threshold) || !(1..=65536).contains(&ledger) {
             return Err(Refusal::Geometry);
         }
         let boundary = boundary_of(buffer);

@@ -1,5 +1,5 @@
 // Sums on pointers, which wrap at the boundary. Every number is taken: what is not below the boundary is wrapped first.
-ghost use Rattle.std.specs.Prelude.{◌≡◌, ◌+◌, ◌%◌, ◌<◌};
+ghost use Rattle.std.specs.Prelude.{◌≡◌, ◌+◌, ◌-◌, ◌/◌, ◌%◌, ◌<◌};
 ghost use Rattle.geometry.specs.Pointers.{area_length, capture_avail, place_of, playback_avail, pointer_of};
 
 use super::Geometry;
@@ -71,5 +71,13 @@ impl Geometry {
         ensures { result ≡ area_length self.now.buffer wanted avail place }
     {
         wanted.min(avail).min(self.buffer.saturating_sub(place))
+    }
+
+    // The periods that end within the next n frames after a count of frames.
+    pub fn periods(&self, count: u32, n: u32) -> u32
+        ensures { result ≡ (count + n) / self.now.period - count / self.now.period }
+    {
+        let period = self.period as u64;
+        ((count as u64 + n as u64) / period - count as u64 / period) as u32
     }
 }

@@ -27,8 +27,7 @@ impl Playback {
         ensures memory { ledger.new ≡ noted (numbers_of self.old.ledger) ledger.old due }
     {
         note(&mut self.ledger, ledger, due);
-        // True, since so many wait.
-        let _ = self.frames.free(went);
+        self.frames.free(went).unwrap();
         self.oldest += went;
         self.state = state;
     }

@@ -5,6 +5,7 @@ ghost use Rattle.account.specs.PlaybackBook.{waits};
 ghost use Rattle.playback.specs.PlaybackBook.{book_of};
 
 use super::Playback;
+use calls::verdict::Effect::{Enter, Move, Stay};
 use calls::verdict::{CallKind, Verdict};
 use codes::refusal::Refusal;
 use codes::state::State;
@@ -21,27 +22,28 @@ impl Playback {
         ensures { result ≡ decides (book_of self.now) call }
     {
         match (self.state, call) {
-            (_, CallKind::Take) => Verdict::Stay,
+            (_, CallKind::Take) => Ok(Stay),
             (
                 State::Prepared | State::Running | State::Paused,
                 CallKind::Begin | CallKind::Access | CallKind::Commit,
-            ) => Verdict::Stay,
-            (State::Prepared, CallKind::Start) if self.waiting() == 0 => Verdict::Refuse(
+            ) => Ok(Stay),
+            (State::Prepared, CallKind::Start) if self.waiting() == 0 => Err(
                 Refusal::NothingWaiting,
             ),
-            (State::Prepared, CallKind::Start) => Verdict::Enter(State::Running),
-            (State::Running | State::Draining, CallKind::Tick) => Verdict::Move,
-            (_, CallKind::Tick) => Verdict::Stay,
-            (State::Running, CallKind::Pause) => Verdict::Enter(State::Paused),
-            (State::Paused, CallKind::Resume) => Verdict::Enter(State::Running),
-            (State::Prepared | State::Running, CallKind::Drain) if self.waiting() == 0 =>
-                Verdict::Enter(State::Setup),
-            (State::Prepared | State::Running, CallKind::Drain) => Verdict::Enter(State::Draining),
-            (State::Setup, CallKind::Drop) => Verdict::Refuse(Refusal::State),
-            (_, CallKind::Drop) => Verdict::Enter(State::Setup),
-            (State::Setup | State::Xrun, CallKind::Prepare) => Verdict::Enter(State::Prepared),
-            (State::Xrun, _) => Verdict::Refuse(Refusal::Xrun),
-            (_, _) => Verdict::Refuse(Refusal::State),
+            (State::Prepared, CallKind::Start) => Ok(Enter(State::Running)),
+            (State::Running | State::Draining, CallKind::Tick) => Ok(Move),
+            (_, CallKind::Tick) => Ok(Stay),
+            (State::Running, CallKind::Pause) => Ok(Enter(State::Paused)),
+            (State::Paused, CallKind::Resume) => Ok(Enter(State::Running)),
+            (State::Prepared | State::Running, CallKind::Drain) if self.waiting() == 0 => Ok(Enter(
+                State::Setup,
+            )),
+            (State::Prepared | State::Running, CallKind::Drain) => Ok(Enter(State::Draining)),
+            (State::Setup, CallKind::Drop) => Err(Refusal::State),
+            (_, CallKind::Drop) => Ok(Enter(State::Setup)),
+            (State::Setup | State::Xrun, CallKind::Prepare) => Ok(Enter(State::Prepared)),
+            (State::Xrun, _) => Err(Refusal::Xrun),
+            (_, _) => Err(Refusal::State),
         }
     }
 }

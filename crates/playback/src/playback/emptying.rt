@@ -1,5 +1,7 @@
 // The calls of a playback stream that throw away the frames that wait.
-ghost use Rattle.std.specs.Prelude.{◌≡◌, ◌<◌, length, None};
+// Both streams have these calls, each over its own book: what they share are the checks and the entry.
+ghost use Rattle.std.specs.Result.{result_err};
+ghost use Rattle.std.specs.Prelude.{◌≡◌, ◌<◌, length, IfOk, OnOk};
 ghost use Rattle.ledger.specs.LedgerSpans.{numbers_of};
 ghost use Rattle.account.specs.Ledgers.{noted};
 ghost use Rattle.account.specs.Playback.{Drops, Prepares, decides, emptied, loss, no_emptying};
@@ -10,57 +12,29 @@ ghost use Rattle.account.specs.States.{entered};
 ghost use Rattle.calls.specs.Told.{told};
 
 use super::Playback;
+use calls::elsewhere::check_length;
 use calls::entry::Entry;
-use calls::verdict::{CallKind, Verdict};
+use calls::verdict::CallKind;
 use codes::entry_kind::EntryKind;
 use codes::refusal::Refusal;
 use codes::state::State;
+use ledger::noting::check_room;
 use sinks::sink::Sink;
 
 impl Playback {
-    // The entry for the frames that wait, if any do.
-    fn loss(&self, kind: EntryKind) -> Option<Entry>
-        ensures { result ≡ loss kind (book_of self.now) }
+    // The state after a call that throws away the frames that wait, or why it may not.
+    fn check_emptying(&self, ledger: &[Entry], call: CallKind) -> Result<State, Refusal>
+        ensures answer { result_err result ≡ first_of (no_emptying (book_of self.now) call ledger.now) }
+        ensures state { IfOk result (λ s. s ≡ entered (decides (book_of self.now) call) self.now.state) }
+        ensures memory { OnOk result (length ledger.now ≡ self.now.ledger.size) }
+        ensures rule { OnOk result (0 < waits (book_of self.now) → self.now.ledger.count < self.now.ledger.size) }
     {
-        let lost = self.waiting();
-        if lost == 0 {
-            return None;
+        check_length(ledger, self.geometry.ledger())?;
+        let effect = self.decide(call)?;
+        if self.waiting() > 0 {
+            check_room(&self.ledger)?;
         }
-        Some(Entry {
-            kind,
-            first: self.oldest,
-            lost,
-            missed: 0,
-            cause: 0,
-            depth: 0,
-        })
-    }
-
-    fn entered(&self, call: CallKind) -> State
-        ensures { result ≡ entered (decides (book_of self.now) call) self.now.state }
-    {
-        match self.decide(call) {
-            Verdict::Enter(state) => state,
-            _ => self.state,
-        }
-    }
-
-    // Why the frames that wait may not be thrown away, if they may not.
-    fn refuses_emptying(&self, ledger: &[Entry], call: CallKind) -> Option<Refusal>
-        ensures answer { result ≡ first_of (no_emptying (book_of self.now) call ledger.now) }
-        ensures memory { result ≡ None → length ledger.now ≡ self.now.ledger.size }
-        ensures rule { result ≡ None → 0 < waits (book_of self.now) → self.now.ledger.count < self.now.ledger.size }
-    {
-        if ledger.len() != self.geometry.ledger() as usize {
-            return Some(Refusal::Memory);
-        }
-        if let Verdict::Refuse(why) = self.decide(call) {
-            return Some(why);
-        }
-        if self.ledger.count() >= self.ledger.size() && self.waiting() > 0 {
-            return Some(Refusal::LedgerFull);
-        }
-        None
+        Ok(effect.state_after(self.state))
     }
 
     // Throws away the frames that wait, and any lease; a state is entered.
@@ -70,7 +44,7 @@ impl Playback {
         ensures state { book_of self.new ≡ emptied (book_of self.old) state (loss kind (book_of self.old)) }
         ensures memory { ledger.new ≡ noted (numbers_of self.old.ledger) ledger.old (loss kind (book_of self.old)) }
     {
-        let due = self.loss(kind);
+        let due = Entry::of_loss(kind, self.oldest, self.waiting());
         self.advance(ledger, state, self.waiting(), due);
         self.lending.out = None;
     }
@@ -79,10 +53,7 @@ impl Playback {
     pub fn drop(&mut self, ledger: &mut [Entry]) -> Result<(), Refusal>
         ensures { Drops (book_of self.old) ledger.old (told result) (book_of self.new) ledger.new }
     {
-        if let Some(why) = self.refuses_emptying(ledger, CallKind::Drop) {
-            return Err(why);
-        }
-        let state = self.entered(CallKind::Drop);
+        let state = self.check_emptying(ledger, CallKind::Drop)?;
         self.empty(ledger, state, EntryKind::Dropped);
         Ok(())
     }
@@ -91,10 +62,7 @@ impl Playback {
     pub fn prepare<S: Sink>(&mut self, sink: &mut S, ledger: &mut [Entry]) -> Result<(), Refusal>
         ensures { Prepares S.Sink.shows (book_of self.old) sink.old ledger.old (told result) (book_of self.new) sink.new ledger.new }
     {
-        if let Some(why) = self.refuses_emptying(ledger, CallKind::Prepare) {
-            return Err(why);
-        }
-        let state = self.entered(CallKind::Prepare);
+        let state = self.check_emptying(ledger, CallKind::Prepare)?;
         self.empty(ledger, state, EntryKind::Prepared);
         sink.heal();
         Ok(())

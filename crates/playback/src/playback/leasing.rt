@@ -3,12 +3,12 @@ ghost use Rattle.std.specs.Prelude.{◌≡◌};
 ghost use Rattle.account.specs.Playback.{Begins, Commits, started};
 ghost use Rattle.account.specs.PlaybackBook.{fresh};
 ghost use Rattle.playback.specs.PlaybackBook.{book_of};
-ghost use Rattle.calls.specs.Told.{told, told_lease};
+ghost use Rattle.calls.specs.Told.{told, told_lease, handed};
 
 use super::Playback;
 use crate::lease::{Lease, Seal};
-use calls::lease_parts::{LeaseParts, Lending};
-use calls::verdict::{CallKind, Verdict};
+use calls::lease_parts::Lending;
+use calls::verdict::CallKind;
 use codes::refusal::Refusal;
 use codes::state::State;
 use geometry::geometry::Geometry;
@@ -19,23 +19,15 @@ impl Playback {
     pub fn new(geometry: Geometry) -> Playback
         ensures { book_of result ≡ fresh geometry }
     {
-        let Some(frames) = Span::new(geometry.buffer()) else {
-            unreachable()
-        };
-        let Some(ledger) = Span::new(geometry.ledger()) else {
-            unreachable()
-        };
         Playback {
             geometry,
             state: State::Setup,
             committed: 0,
             oldest: 0,
-            lending: Lending {
-                granted: 0,
-                out: None,
-            },
-            frames,
-            ledger,
+            lending: Lending::default(),
+            // A geometry has no empty ring.
+            frames: Span::new(geometry.buffer()).unwrap(),
+            ledger: Span::new(geometry.ledger()).unwrap(),
         }
     }
 
@@ -43,12 +35,8 @@ impl Playback {
     pub fn begin(&mut self, wanted: u32) -> Result<Lease, Refusal>
         ensures { Begins (book_of self.old) wanted (told_lease result) (book_of self.new) }
     {
-        if self.lending.out.is_some() {
-            return Err(Refusal::LeaseOut);
-        }
-        if let Verdict::Refuse(why) = self.decide(CallKind::Begin) {
-            return Err(why);
-        }
+        self.lending.check_none_out()?;
+        self.decide(CallKind::Begin)?;
         if wanted == 0 {
             return Err(Refusal::Zero);
         }
@@ -56,20 +44,10 @@ impl Playback {
         if free == 0 {
             return Err(Refusal::Unavailable);
         }
-        let Some(number) = self.lending.granted.checked_add(1) else {
-            return Err(Refusal::Limit);
-        };
         let place = self.geometry.place(self.committed);
-        let parts = LeaseParts {
-            tag: self.geometry.tag(),
-            number,
-            place,
-            length: self.geometry.area(wanted, free, place),
-        };
-        self.lending = Lending {
-            granted: number,
-            out: Some(parts),
-        };
+        let length = self.geometry.area(wanted, free, place);
+        let tag = self.geometry.tag();
+        let parts = self.lending.grant(tag, place, length)?;
         Ok(Lease::new(parts, Seal(())))
     }
 
@@ -89,10 +67,8 @@ impl Playback {
         ensures { Commits (book_of self.old) lease.parts n (told result) (book_of self.new) }
     {
         let parts = lease.end(Seal(()));
-        if !self.lending.holds(parts) {
-            return Err(Refusal::WrongLease);
-        }
-        if let Verdict::Refuse(why) = self.decide(CallKind::Commit) {
+        self.lending.check_holds(parts)?;
+        if let Err(why) = self.decide(CallKind::Commit) {
             // In XRUN the lease has ended all the same.
             if let State::Xrun = self.state {
                 self.lending.out = None;
@@ -100,16 +76,19 @@ impl Playback {
             return Err(why);
         }
         self.lending.out = None;
-        if n > parts.length {
-            return Err(Refusal::Beyond);
-        }
-        let Some(committed) = self.committed.checked_add(n) else {
-            return Err(Refusal::Limit);
-        };
+        parts.check_within(0, n as usize)?;
+        let committed = self.committed.checked_add(n).ok_or(Refusal::Limit)?;
         self.state = self.started(n);
-        // True, since the area lies in the free places.
-        let _ = self.frames.take_in(n);
+        self.frames.take_in(n).unwrap();
         self.committed = committed;
         Ok(())
+    }
+
+    // One line in both streams, since only a stream's own crate can make its seal.
+    // The lease that is out, in exchange for the one in hand, which is used up.
+    pub fn exchange(&self, hand: Option<Lease>) -> Option<Lease>
+        ensures { handed result ≡ self.now.lending.out }
+    {
+        self.lending.exchange(hand, Seal(()))
     }
 }

@@ -9,12 +9,14 @@ ghost use Rattle.calls.specs.Told.{told_tick};
 use super::Playback;
 use crate::playing::{Gone, play};
 use calls::answer::Ticked;
+use calls::elsewhere::check_length;
 use calls::entry::Entry;
-use calls::verdict::{CallKind, Verdict};
+use calls::verdict::{CallKind, Effect};
 use codes::entry_kind::EntryKind;
 use codes::refusal::Refusal;
 use codes::state::State;
 use frames::frame::Frame;
+use ledger::noting::check_room;
 use sinks::sink::Sink;
 
 impl Playback {
@@ -62,15 +64,6 @@ impl Playback {
         }
     }
 
-    // The periods that the hardware passes as it plays n frames more.
-    fn periods(&self, n: u32) -> u32
-        requires { n ≤ waits (book_of self.now) }
-        ensures { result ≡ periods self.now.geometry.period self.now.oldest n }
-    {
-        let period = self.geometry.period();
-        (self.oldest + n) / period - self.oldest / period
-    }
-
     // Plays at most k frames, in a state that moves frames.
     pub fn tick<S: Sink>(
         &mut self,
@@ -81,27 +74,21 @@ impl Playback {
     ) -> Result<Ticked, Refusal>
         ensures { Ticks S.Sink.shows (book_of self.old) sink.old memory.now ledger.old k (told_tick result) (book_of self.new) sink.new ledger.new }
     {
-        if memory.len() != self.geometry.buffer() as usize {
-            return Err(Refusal::Memory);
-        }
-        if ledger.len() != self.geometry.ledger() as usize {
-            return Err(Refusal::Memory);
-        }
-        let Verdict::Move = self.decide(CallKind::Tick) else {
+        check_length(memory, self.geometry.buffer())?;
+        check_length(ledger, self.geometry.ledger())?;
+        let Effect::Move = self.decide(CallKind::Tick)? else {
             return Ok(Ticked {
                 frames: 0,
                 state: self.state,
                 periods: 0,
             });
         };
-        if self.ledger.count() >= self.ledger.size() {
-            return Err(Refusal::LedgerFull);
-        }
+        check_room(&self.ledger)?;
         let gone = play(sink, &self.frames, memory, k);
         let ticked = Ticked {
             frames: gone.went,
             state: self.after_tick(k, gone.went),
-            periods: self.periods(gone.went),
+            periods: self.geometry.periods(self.oldest, gone.went),
         };
         let due = self.tick_entry(k, gone);
         self.advance(ledger, ticked.state, gone.went, due);

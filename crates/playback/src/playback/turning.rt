@@ -1,11 +1,13 @@
 // The calls of a playback stream that only change its state.
+// Both streams have these calls, each over its own table: a trait would have to name the table and book of each, and its impls
+// would be as long as the two lines here.
 ghost use Rattle.calls.specs.declared.verdict.CallKind.TheVariants.{Start, Pause, Resume};
 ghost use Rattle.account.specs.Playback.{Turns, Drains};
 ghost use Rattle.playback.specs.PlaybackBook.{book_of};
 ghost use Rattle.calls.specs.Told.{told};
 
 use super::Playback;
-use calls::verdict::{CallKind, Verdict};
+use calls::verdict::CallKind;
 use codes::refusal::Refusal;
 
 impl Playback {
@@ -13,14 +15,8 @@ impl Playback {
     fn turn(&mut self, call: CallKind) -> Result<(), Refusal>
         ensures { Turns (book_of self.old) call (told result) (book_of self.new) }
     {
-        match self.decide(call) {
-            Verdict::Stay | Verdict::Move => Ok(()),
-            Verdict::Enter(state) => {
-                self.state = state;
-                Ok(())
-            }
-            Verdict::Refuse(why) => Err(why),
-        }
+        self.state = self.decide(call)?.state_after(self.state);
+        Ok(())
     }
 
     pub fn start(&mut self) -> Result<(), Refusal>
@@ -45,9 +41,7 @@ impl Playback {
     pub fn drain(&mut self) -> Result<(), Refusal>
         ensures { Drains (book_of self.old) (told result) (book_of self.new) }
     {
-        if self.lending.out.is_some() {
-            return Err(Refusal::LeaseOut);
-        }
+        self.lending.check_none_out()?;
         self.turn(CallKind::Drain)
     }
 }

@@ -1,5 +1,6 @@
 // Frames written into the leased area of a playback stream.
-ghost use Rattle.std.specs.Prelude.{◌≡◌, ◌+◌, ◌≤◌, length, None};
+ghost use Rattle.std.specs.Result.{result_err};
+ghost use Rattle.std.specs.Prelude.{◌≡◌, ◌+◌, ◌≤◌, length, OnOk};
 ghost use Rattle.std.proofs.Math.Seq.{paste};
 ghost use Rattle.frames.specs.Samples.{mixed_all};
 ghost use Rattle.account.specs.Areas.{area};
@@ -10,8 +11,9 @@ ghost use Rattle.calls.specs.Told.{told};
 
 use super::Playback;
 use crate::lease::Lease;
+use calls::elsewhere::check_length;
 use calls::lease_parts::LeaseParts;
-use calls::verdict::{CallKind, Verdict};
+use calls::verdict::CallKind;
 use codes::refusal::Refusal;
 use frames::frame::Frame;
 use frames::mix::mix_into;
@@ -32,31 +34,54 @@ fn blend(memory: &mut [Frame], place: usize, frames: &[Frame])
     mix_into(&mut memory[place..place + frames.len()], frames);
 }
 
+// `put` and `mix` stay two calls: they differ in `write` and `blend`, and share the rest. Lease, position and frames are the call's
+// own parameters.
 impl Playback {
-    // Why no frames may be written at a position of the leased area, if they may not.
-    fn refuses_access(
+    // Frames may be written only into the area of the lease that is out.
+    fn check_access(
         &self,
         memory: &[Frame],
         lease: LeaseParts,
         position: u32,
         count: usize,
-    ) -> Option<Refusal>
-        ensures answer { result ≡ first_of (no_access (book_of self.now) memory.now lease position count) }
-        ensures rule { result ≡ None → lease.place + position + count ≤ length memory.now }
+    ) -> Result<(), Refusal>
+        ensures answer { result_err result ≡ first_of (no_access (book_of self.now) memory.now lease position count) }
+        ensures rule { OnOk result (lease.place + position + count ≤ length memory.now) }
     {
-        if memory.len() != self.geometry.buffer() as usize {
-            return Some(Refusal::Memory);
-        }
-        if !self.lending.holds(lease) {
-            return Some(Refusal::WrongLease);
-        }
-        if let Verdict::Refuse(why) = self.decide(CallKind::Access) {
-            return Some(why);
-        }
-        if position > lease.length || count > (lease.length - position) as usize {
-            return Some(Refusal::Beyond);
-        }
-        None
+        check_length(memory, self.geometry.buffer())?;
+        self.lending.check_holds(lease)?;
+        self.decide(CallKind::Access)?;
+        lease.check_within(position, count)
+    }
+
+    // Writes frames into the area of a lease that is given by its parts.
+    pub(crate) fn put_by_parts(
+        &self,
+        memory: &mut [Frame],
+        lease: LeaseParts,
+        position: u32,
+        frames: &[Frame],
+    ) -> Result<(), Refusal>
+        ensures { Puts (book_of self.now) memory.old lease position frames.now (told result) memory.new }
+    {
+        self.check_access(memory, lease, position, frames.len())?;
+        write(memory, lease.place as usize + position as usize, frames);
+        Ok(())
+    }
+
+    // Mixes frames into the area of a lease that is given by its parts.
+    pub(crate) fn mix_by_parts(
+        &self,
+        memory: &mut [Frame],
+        lease: LeaseParts,
+        position: u32,
+        frames: &[Frame],
+    ) -> Result<(), Refusal>
+        ensures { Mixes (book_of self.now) memory.old lease position frames.now (told result) memory.new }
+    {
+        self.check_access(memory, lease, position, frames.len())?;
+        blend(memory, lease.place as usize + position as usize, frames);
+        Ok(())
     }
 
     // Writes frames into the leased area, from a position in it on.
@@ -69,12 +94,7 @@ impl Playback {
     ) -> Result<(), Refusal>
         ensures { Puts (book_of self.now) memory.old lease.now.parts position frames.now (told result) memory.new }
     {
-        let parts = lease.parts();
-        if let Some(why) = self.refuses_access(memory, parts, position, frames.len()) {
-            return Err(why);
-        }
-        write(memory, parts.place as usize + position as usize, frames);
-        Ok(())
+        self.put_by_parts(memory, lease.parts(), position, frames)
     }
 
     // Mixes frames into the leased area, from a position in it on.
@@ -87,11 +107,6 @@ impl Playback {
     ) -> Result<(), Refusal>
         ensures { Mixes (book_of self.now) memory.old lease.now.parts position frames.now (told result) memory.new }
     {
-        let parts = lease.parts();
-        if let Some(why) = self.refuses_access(memory, parts, position, frames.len()) {
-            return Err(why);
-        }
-        blend(memory, parts.place as usize + position as usize, frames);
-        Ok(())
+        self.mix_by_parts(memory, lease.parts(), position, frames)
     }
 }

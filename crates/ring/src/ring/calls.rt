@@ -3,54 +3,28 @@ ghost use Rattle.std.specs.Prelude.{◌≡◌};
 ghost use Rattle.ring.specs.Rings.{Adds, GivesUp, Reads};
 
 use super::Ring;
-use crate::span::Span;
-use crate::span::elements::at;
+use crate::does_not_fit::DoesNotFit;
 
-impl<'a, T: Copy> Ring<'a, T> {
-    // The ring that a span marks in a memory.
-    pub fn over(memory: &'a mut [T], span: Span) -> Ring<'a, T>
-        ensures numbers { result.span ≡ span }
-        ensures memory { result.memory.now ≡ memory.old }
-        ensures same { result.memory.ghost_name ≡ memory.entry.ghost_name }
-    {
-        Ring { memory, span }
-    }
-
-    // The span, for its owner to keep.
-    pub fn span(&self) -> Span
-        ensures { result ≡ self.now.span }
-    {
-        self.span
-    }
-
+impl<T: Copy> Ring<'_, T> {
     // Adds an element at the newest end, unless the ring is full.
-    pub fn add(&mut self, x: T) -> bool
+    pub fn add(&mut self, x: T) -> Result<(), DoesNotFit>
         ensures answer { Adds result self.old.span self.old.memory.now x self.new.span self.new.memory.now }
         ensures same { self.new.memory.ghost_name ≡ self.old.memory.ghost_name }
     {
-        if self.memory.len() != self.span.size() as usize {
-            return false;
+        if !self.span.fits(self.memory.len()) {
+            return Err(DoesNotFit);
         }
         let place = self.span.next();
-        if !self.span.take_in(1) {
-            return false;
-        }
+        self.span.take_in(1)?;
         self.memory[place as usize] = x;
-        true
+        Ok(())
     }
 
     // Reads the oldest element.
     pub fn oldest(&self) -> Option<T>
         ensures { Reads result self.now.span self.now.memory.now }
     {
-        if self.memory.len() != self.span.size() as usize {
-            return None;
-        }
-        if self.span.count() == 0 {
-            return None;
-        }
-        let place = self.span.oldest();
-        Some(at(self.memory, place))
+        self.span.element(self.memory, 0)
     }
 
     // Removes the oldest element and answers it. Its place is free then, and the memory as it was.
@@ -60,8 +34,7 @@ impl<'a, T: Copy> Ring<'a, T> {
         ensures same { self.new.memory.ghost_name ≡ self.old.memory.ghost_name }
     {
         let x = self.oldest()?;
-        // True, since the ring holds one.
-        let _ = self.span.free(1);
+        self.span.free(1).unwrap();
         Some(x)
     }
 }

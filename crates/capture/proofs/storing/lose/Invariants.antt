@@ -1,4 +1,4 @@
-use Rattle.std.proofs.Common.{◌≡◌, ◌-◌, ◌≤◌, length, take, drop}
+use Rattle.std.proofs.Common.{◌≡◌, ◌≤◌, length, take, drop}
 use Rattle.sources.specs.Source.{Gives}
 use Rattle.capture.proofs.storing.lose.Given as goal
 
@@ -8,6 +8,3 @@ invariant-loop-count g l =
     × (l.count ≤ length (g.R.Source.shows.coming l.initial.source))
     × (g.R.Source.shows.coming l.source ≡ drop l.count (g.R.Source.shows.coming l.initial.source))
     × Gives g.R.Source.shows l.initial.source (take l.count (g.R.Source.shows.coming l.initial.source)) l.source
-
-abbrev pub decreases-loop-count : goal.decreases-loop-count
-decreases-loop-count g l = l.most - l.count

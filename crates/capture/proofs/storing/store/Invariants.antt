@@ -1,4 +1,4 @@
-use Rattle.std.proofs.Common.{◌≡◌, ◌+◌, ◌-◌, ◌%◌, ◌<◌, ◌≤◌, length, take, drop}
+use Rattle.std.proofs.Common.{◌≡◌, ◌+◌, ◌%◌, ◌<◌, ◌≤◌, length, take, drop}
 use Rattle.sources.specs.Source.{Gives}
 use Rattle.account.specs.Capture.{stored}
 use Rattle.capture.proofs.storing.store.Given as goal
@@ -12,6 +12,3 @@ invariant-loop-count g l =
     × (l.memory ≡ stored l.span.size l.initial.memory (l.span.oldest + l.span.count) (take l.count (g.R.Source.shows.coming l.initial.source)))
     × (l.place ≡ (l.span.oldest + l.span.count + l.count) % l.span.size)
     × (l.place < l.span.size)
-
-abbrev pub decreases-loop-count : goal.decreases-loop-count
-decreases-loop-count g l = l.most - l.count

@@ -25,7 +25,7 @@ returns g c =
     let kept : c.store-kept.result ≡ length (take room (take k coming)) = search rules in
     let lost : c.lose-lost.result ≡ length (drop room (take k coming)) = search rules in
     let inside : s.count + c.store-kept.result ≤ s.size = omega arith in
-    let numbers = taken_in c.take_in.result s c.store-kept.result c.take_in.new.self inside c.take_in.ensures in
+    let numbers = taken_in c.take_in.result s c.store-kept.result c.take_in.new.self inside c.take_in.ensures.answer in
     let first : Gives p c.args.source.now (take (min k room) coming) c.store-kept.new.source = search rules in
     let others : Gives p c.store-kept.new.source (take (k - length (take (min k room) coming)) (drop (min k room) coming)) c.lose-lost.new.source = search rules in
     record {

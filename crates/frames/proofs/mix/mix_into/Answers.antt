@@ -1,5 +1,6 @@
-use Rattle.std.proofs.Common.{◌≡◌, get_or, set, sym, ap, ◌∙◌, arith}
-use Rattle.frames.specs.Samples.{mixed, silence}
+use Rattle.std.proofs.Common.{◌≡◌, ◌<◌, length, get_or, set, take, sym, ap, ◌∙◌, arith, rules}
+use Rattle.std.proofs.lemmas.List.{set-get_or}
+use Rattle.frames.specs.Samples.{mixed, mixed_all, silence}
 use Rattle.frames.proofs.Mixing.{mixed_ahead, mixed_more, mixed_reach, mixed_none}
 use Rattle.frames.proofs.mix.mix_into.Goals as goal
 
@@ -11,14 +12,22 @@ loop-i-preserved c =
     let A = c.args.area.now in
     let F = c.args.frames.now in
     let i = c.loop-i.i in
+    let f = c.in-Some.frame.now in
     let inv = c.loop-i.invariant.0 in
+    let inside : i < length F = search rules in
     let same : get_or c.loop-i.area i silence ≡ get_or A i silence = ap (λ z. get_or z i silence) inv ∙ mixed_ahead A F i silence in (
-      c.mix_at.ensures
-          ∙ ap (λ z. set c.loop-i.area i (mixed z (get_or F i silence))) same
-          ∙ ap (λ z. set z i (mixed (get_or A i silence) (get_or F i silence))) inv
-          ∙ mixed_more A F i silence silence (omega (arith, c.min-count.ensures)) (omega (arith, c.min-count.ensures)),
-      omega arith,
+      ap (set c.loop-i.area i) c.mix.ensures
+          ∙ ap (λ z. set c.loop-i.area i (mixed z f)) same
+          ∙ ap (λ z. set z i (mixed (get_or A i silence) f)) inv
+          ∙ ap (λ z. set (mixed_all A (take i F)) i (mixed (get_or A i silence) z)) c.in-Some.ensures.lookup.1
+          ∙ mixed_more A F i silence _ c.loop-i-test.true inside,
+      omega (arith, inside),
     )
 
+pub returns-in_default : goal.returns-in_default
+returns-in_default c =
+    let l = c.loop-i in
+    set-get_or l.area l.i _ ∙ l.invariant.0 ∙ mixed_reach c.args.area.now c.args.frames.now l.i (search rules)
+
 pub returns : goal.returns
-returns c = c.loop-i.invariant.0 ∙ mixed_reach c.args.area.now c.args.frames.now c.loop-i.i (omega (arith, c.min-count.ensures))
+returns c = c.loop-i.invariant.0 ∙ mixed_reach c.args.area.now c.args.frames.now c.loop-i.i (omega (arith, c.loop-i-test.false))

@@ -1,10 +1,7 @@
-use Rattle.std.proofs.Common.{◌-◌, ◌≤◌, take}
+use Rattle.std.proofs.Common.{◌≤◌, take}
 use Rattle.ring.specs.Spans.{holds}
 use Rattle.sinks.specs.Sink.{Offers}
 use Rattle.playback.proofs.playing.play.Given as goal
 
 abbrev pub invariant-loop-went : goal.invariant-loop-went
 invariant-loop-went g l = (l.went ≤ l.k) × (l.went ≤ l.span.count) × Offers g.S.Sink.shows l.initial.sink (take l.went (holds l.span l.memory)) l.sink
-
-abbrev pub decreases-loop-went : goal.decreases-loop-went
-decreases-loop-went g l = l.k - l.went

@@ -25,7 +25,7 @@ loop-i-preserved g c =
     let i = c.loop-i.i in
     let f : Frame = get_or fs i (record { left = pos 0; right = pos 0 }) in
     let more : take (i + 1) fs ≡ take i fs ++ f ∷ [] = take_more fs i _ c.loop-i-test.true in
-    (omega arith, subst (λ (xs : List Frame). Offers p s xs t) (sym more) (offers_push p s c.loop-i.sink t (take i fs) f c.loop-i.invariant.1 c.in-Ok.ensures))
+    (omega arith, subst (λ (xs : List Frame). Offers p s xs t) (sym more) (offers_push p s c.loop-i.sink t (take i fs) f c.loop-i.invariant.1 c.in_default.ensures))
 
 pub returns : goal.returns
 returns g c =

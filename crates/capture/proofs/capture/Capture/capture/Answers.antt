@@ -1,16 +1,8 @@
-use Rattle.std.proofs.Common.{◌∙◌, arith}
 use Rattle.capture.specs.CaptureBook.{book_of}
 use Rattle.ledger.specs.LedgerSpans.{numbers_of, FitsIn}
 use Rattle.ledger.proofs.Ledger.{room_any}
 use Rattle.capture.proofs.Captures.{captured}
 use Rattle.capture.proofs.capture.Capture.capture.Goals as goal
-
-pub invariant_of-self : goal.invariant_of-self
-invariant_of-self g c =
-    let s = c.args.self.now in
-    let has = c.take_in-came.ensures.numbers in
-    let within = c.take_in-came.ensures.within in
-    record { widths = (omega arith, s.widths.1); ordered = (omega arith, omega arith); ring = (has.0 ∙ s.ring.0, has.1 ∙ s.ring.1, omega arith); entries = c.note.ensures.same ∙ s.entries; area = λ l e. let i = s.area l e in (i.0, omega (arith, i.1), i.2) }
 
 pub returns : goal.returns
 returns g c =

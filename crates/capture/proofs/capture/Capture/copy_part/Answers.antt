@@ -1,4 +1,5 @@
-use Rattle.std.proofs.Common.{◌≡◌, ◌-◌, length, ap, ◌∙◌}
+use Rattle.std.proofs.Common.{◌≡◌, ◌-◌, length, ap, ◌∙◌, rules}
+use Rattle.calls.specs.Told.{told}
 use Rattle.capture.proofs.HostParts.{part_is, part_long, part_back}
 use Rattle.capture.proofs.capture.Capture.copy_part.Goals as goal
 
@@ -12,4 +13,5 @@ returns c =
     let part = c.copy_by_parts.new.host in
     let same = part_is host x n f e c.min-from.ensures c.min-end.ensures in
     let long : length part ≡ e - f = c.copy_by_parts.auto.host ∙ ap length same ∙ part_long host x n f e c.min-from.ensures c.min-end.ensures in
-    (part, rw same at c.copy_by_parts.ensures, part_back host x n f e c.min-from.ensures c.min-end.ensures part long)
+    let answer : c.map.result ≡ told c.copy_by_parts.result = search rules in
+    (part, rw answer (rw same at c.copy_by_parts.ensures), part_back host x n f e c.min-from.ensures c.min-end.ensures part long)

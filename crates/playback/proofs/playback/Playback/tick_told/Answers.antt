@@ -1,4 +1,0 @@
-use Rattle.playback.proofs.playback.Playback.tick_told.Goals as goal
-
-pub returns : goal.returns
-returns g c = rw c.tell_tick.ensures c.tick.ensures
