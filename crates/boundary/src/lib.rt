@@ -35,7 +35,7 @@ pub extern "C" fn zagorchard_calls(heap: Global, script: &[u8], out: &mut [u8]) 
     run_script(heap, script, out) as u64
 }
 
-// Plays a whole recording through a playback stream, and writes what was heard.
+// Plays a whole recording through a playback stream, and writes what was heard. C hands over each parameter by itself.
 #[unsafe(no_mangle)]
 pub extern "C" fn zagorchard_play(
     heap: Global,

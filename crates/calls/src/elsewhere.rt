@@ -1,7 +1,8 @@
 // Memory as long as a stream's own, and memory of another length, for calls that are to be refused by it.
-ghost use Rattle.std.specs.Prelude.{◌≡◌, ◌<◌, ◌≤◌, ◌≢◌, ◌==◌, not, length, if◌then◌else◌, nat_eq, OnOk};
+ghost use Rattle.std.specs.Prelude.{◌≡◌, ◌<◌, ◌≤◌, ◌≢◌, ◌==◌, not, length, if◌then◌else◌, nat_eq, OnOk, take};
 ghost use Rattle.codes.specs.declared.refusal.Refusal.TheVariants.{Memory};
 ghost use Rattle.calls.specs.Checks.{refused_if, IsGiven};
+ghost use Rattle.calls.specs.declared.call.Given.TheVariants.{Another};
 
 use crate::call::Given;
 use crate::entry::Entry;
@@ -31,7 +32,8 @@ pub fn another_length(spare: usize, own: u32) -> usize
 
 // The memory that a call reads: the stream's own, or a part of the spare one that is not as long.
 pub fn given_memory<'a, T>(given: Given, own: &'a [T], spare: &'a [T], size: u32) -> &'a [T]
-    ensures { IsGiven given own.now size result.now }
+    ensures given { IsGiven given own.now size result.now }
+    ensures part { given ≡ Another → result.now ≡ take (if nat_eq (length spare.now) size then 0 else length spare.now) spare.now }
 {
     match given {
         Given::Own => own,

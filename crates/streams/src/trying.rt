@@ -48,7 +48,7 @@ impl<S: Sink, R: Source> Table<'_, S, R> {
         }
     }
 
-    // One call of either stream, by its rule.
+    // One call of either stream, by its rule. Calls are data, so a match says whose it is.
     fn step(&mut self, spare: &mut Spare<'_>, hands: Hands, call: Call<'_>) -> Told
         ensures rule { Step S.Sink.shows R.Source.shows (table_of self.old) call.entry result.answer (table_of self.new) }
         ensures leases { (handed result.hands.playback ≡ self.new.playback.stream.now.lending.out) × (handed result.hands.capture ≡ self.new.capture.stream.now.lending.out) }

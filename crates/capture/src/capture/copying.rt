@@ -26,7 +26,7 @@ fn fill(host: &mut [Frame], memory: &[Frame], place: usize)
 }
 
 impl Capture {
-    // Fills the host's memory with frames of the area of a lease that is given by its parts.
+    // Fills the host's memory with frames of the area of a lease that is given by its parts. Lease and position are the call's own.
     pub(crate) fn copy_by_parts(
         &self,
         memory: &[Frame],

@@ -1,5 +1,5 @@
 // The calls of a capture stream that throw away the unread frames.
-// Both streams have these calls, each over its own book: what they share are the checks and the entry.
+// Both streams have these calls, each over its own book. The checks and the entry are shared; a trait for the rest would be as long.
 ghost use Rattle.std.specs.Result.{result_err};
 ghost use Rattle.std.specs.Prelude.{◌≡◌, ◌<◌, length, IfOk, OnOk};
 ghost use Rattle.account.specs.Capture.{Drops, Prepares, decides, emptied, loss, no_emptying};

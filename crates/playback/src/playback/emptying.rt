@@ -1,5 +1,5 @@
 // The calls of a playback stream that throw away the frames that wait.
-// Both streams have these calls, each over its own book: what they share are the checks and the entry.
+// Both streams have these calls, each over its own book. The checks and the entry are shared; a trait for the rest would be as long.
 ghost use Rattle.std.specs.Result.{result_err};
 ghost use Rattle.std.specs.Prelude.{◌≡◌, ◌<◌, length, IfOk, OnOk};
 ghost use Rattle.ledger.specs.LedgerSpans.{numbers_of};
