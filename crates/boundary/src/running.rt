@@ -87,8 +87,7 @@ impl Streams {
         })
     }
 
-    // The table borrows the streams and the sink for one lifetime, so it has a name here.
-    fn try_one<'a, S: Sink>(&'a mut self, sink: &'a mut S, hands: Hands, call: Call<'_>) -> Asked {
+    fn try_one<S: Sink>(&mut self, sink: &mut S, hands: Hands, call: Call<'_>) -> Asked {
         let mut table = Table {
             playback: PlaybackSituation {
                 stream: &mut self.playback,
@@ -122,6 +121,12 @@ impl Streams {
             Call::Playback(_) => Standing::from(&self.playback),
             Call::Capture(_) => Standing::from(&self.capture),
         }
+    }
+
+    // The host's memory alone; the rest is let go.
+    fn into_host(self) -> Vec<Frame> {
+        let Streams { host, .. } = self;
+        host
     }
 
     // A lease that is still out at the end is given back.
@@ -201,8 +206,13 @@ pub fn put_head(out: &mut [u8], ended: Result<(), Failure>, count: u32) -> usize
     HEAD
 }
 
-// Runs a script onto a pile, and answers how many bytes were written.
-pub fn run<P: Pile>(script: Script<'_>, mut pile: P, out: &mut [u8]) -> Result<usize, AllocError> {
+// Tries the calls of a script on streams of its own. Of these and their memories only the host's memory is kept, so that the
+// rest is free again before the tape is read.
+fn try_on_streams<S: Sink>(
+    script: Script<'_>,
+    sink: &mut S,
+    writer: &mut Writer<'_>,
+) -> Result<(Ran, Vec<Frame>), AllocError> {
     let Script {
         heap,
         setup,
@@ -210,10 +220,17 @@ pub fn run<P: Pile>(script: Script<'_>, mut pile: P, out: &mut [u8]) -> Result<u
     } = script;
     let mut streams = Streams::new(heap, &setup)?;
     let mut scratch = vec![in heap; Frame::default(); calls.left() / 4]?;
+    let ran = streams.try_all(sink, &mut calls, &mut scratch, writer);
+    Ok((ran, streams.into_host()))
+}
+
+// Runs a script onto a pile, and answers how many bytes were written.
+pub fn run<P: Pile>(script: Script<'_>, mut pile: P, out: &mut [u8]) -> Result<usize, AllocError> {
+    let heap = script.heap;
     let mut writer = Writer::new(out, HEAD);
-    let ran = streams.try_all(&mut pile, &mut calls, &mut scratch, &mut writer);
+    let (ran, host) = try_on_streams(script, &mut pile, &mut writer)?;
     let heard = pile.heard(heap)?;
-    let ended = put_end(&mut writer, &heard, &streams.host).and(ran.ended);
+    let ended = put_end(&mut writer, &heard, &host).and(ran.ended);
     let written = writer.at();
     put_head(out, ended, ran.count);
     Ok(written)

@@ -49,12 +49,18 @@ pub struct Writer<'a> {
 
 impl<'a> Writer<'a> {
     // Writes from a place on.
-    pub fn new(out: &'a mut [u8], at: usize) -> Writer<'a> {
+    pub fn new(out: &'a mut [u8], at: usize) -> Writer<'a>
+        ensures place { result.at ≡ at }
+        ensures bytes { result.out.now ≡ out.old }
+        ensures same { result.out.ghost_name ≡ out.entry.ghost_name }
+    {
         Writer { out, at }
     }
 
     // The place behind all that was written.
-    pub fn at(&self) -> usize {
+    pub fn at(&self) -> usize
+        ensures { result ≡ self.now.at }
+    {
         self.at
     }
 

@@ -43,7 +43,7 @@ pub fn given_memory<'a, T>(given: Given, own: &'a [T], spare: &'a [T], size: u32
 
 // Spare memory, for calls that are to be given memory of another length than a stream's own.
 #[derive(Drop)]
-pub struct Spare<'a> {
-    pub frames: &'a mut [Frame],
-    pub ledger: &'a mut [Entry],
+pub struct Spare<'frames, 'ledger> {
+    pub frames: &'frames mut [Frame],
+    pub ledger: &'ledger mut [Entry],
 }

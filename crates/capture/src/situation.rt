@@ -6,11 +6,12 @@ use frames::frame::Frame;
 mod stepping;
 pub mod trying;
 
+// Each loan has a lifetime of its own, so that it asks no more of whoever lends them than a call that takes them one by one.
 #[derive(Drop)]
-pub struct Situation<'a, R> {
-    pub stream: &'a mut Capture,
-    pub source: &'a mut R,
-    pub memory: &'a mut [Frame],
-    pub ledger: &'a mut [Entry],
-    pub host: &'a mut [Frame],
+pub struct Situation<'stream, 'source, 'memory, 'ledger, 'host, R> {
+    pub stream: &'stream mut Capture,
+    pub source: &'source mut R,
+    pub memory: &'memory mut [Frame],
+    pub ledger: &'ledger mut [Entry],
+    pub host: &'host mut [Frame],
 }

@@ -6,10 +6,11 @@ use frames::frame::Frame;
 mod stepping;
 pub mod trying;
 
+// Each loan has a lifetime of its own, so that it asks no more of whoever lends them than a call that takes them one by one.
 #[derive(Drop)]
-pub struct Situation<'a, S> {
-    pub stream: &'a mut Playback,
-    pub sink: &'a mut S,
-    pub memory: &'a mut [Frame],
-    pub ledger: &'a mut [Entry],
+pub struct Situation<'stream, 'sink, 'memory, 'ledger, S> {
+    pub stream: &'stream mut Playback,
+    pub sink: &'sink mut S,
+    pub memory: &'memory mut [Frame],
+    pub ledger: &'ledger mut [Entry],
 }

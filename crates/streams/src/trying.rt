@@ -35,7 +35,7 @@ struct Told {
     hands: Hands,
 }
 
-impl<S: Sink, R: Source> Table<'_, S, R> {
+impl<S: Sink, R: Source> Table<'_, '_, '_, '_, '_, '_, '_, '_, '_, S, R> {
     // The leases that are out, in exchange for those in hand, which are used up.
     pub fn exchange(&self, hands: Hands) -> Hands
         ensures playback { handed result.playback ≡ self.now.playback.stream.now.lending.out }
@@ -49,7 +49,7 @@ impl<S: Sink, R: Source> Table<'_, S, R> {
     }
 
     // One call of either stream, by its rule. Calls are data, so a match says whose it is.
-    fn step(&mut self, spare: &mut Spare<'_>, hands: Hands, call: Call<'_>) -> Told
+    fn step(&mut self, spare: &mut Spare<'_, '_>, hands: Hands, call: Call<'_>) -> Told
         ensures rule { Step S.Sink.shows R.Source.shows (table_of self.old) call.entry result.answer (table_of self.new) }
         ensures leases { (handed result.hands.playback ≡ self.new.playback.stream.now.lending.out) × (handed result.hands.capture ≡ self.new.capture.stream.now.lending.out) }
         ensures same { SameLoans self.old self.new }
@@ -86,7 +86,7 @@ impl<S: Sink, R: Source> Table<'_, S, R> {
     // that are out afterwards come back.
     pub fn try_calls(
         &mut self,
-        spare: &mut Spare<'_>,
+        spare: &mut Spare<'_, '_>,
         hands: Hands,
         calls: &[Call<'_>],
         answers: &mut [Answer],

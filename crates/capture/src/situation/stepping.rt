@@ -11,10 +11,10 @@ use calls::elsewhere::Spare;
 use calls::lease::tell_lease;
 use sources::source::Source;
 
-impl<R: Source> Situation<'_, R> {
+impl<R: Source> Situation<'_, '_, '_, '_, '_, R> {
     // A call that asks for another memory is given a part of the spare one. Calls are data from outside, so a match says which
     // method each runs; a table of closures would hold the same lines, and a trait over both streams more.
-    pub(crate) fn step(&mut self, spare: &mut Spare<'_>, call: CaptureCall) -> Answer
+    pub(crate) fn step(&mut self, spare: &mut Spare<'_, '_>, call: CaptureCall) -> Answer
         ensures rule { Step R.Source.shows (situation_of self.old) call result (situation_of self.new) }
         ensures same { SameLoans self.old self.new }
         ensures spared { IsSpared spare.old spare.new }

@@ -12,10 +12,10 @@ use calls::elsewhere::Spare;
 use calls::lease::tell_lease;
 use sinks::sink::Sink;
 
-impl<S: Sink> Situation<'_, S> {
+impl<S: Sink> Situation<'_, '_, '_, '_, S> {
     // A call that asks for another memory is given a part of the spare one. Calls are data from outside, so a match says which
     // method each runs; a table of closures would hold the same lines, and a trait over both streams more.
-    pub(crate) fn step(&mut self, spare: &mut Spare<'_>, call: PlaybackCall<'_>) -> Answer
+    pub(crate) fn step(&mut self, spare: &mut Spare<'_, '_>, call: PlaybackCall<'_>) -> Answer
         ensures rule { Step S.Sink.shows (situation_of self.old) call.entry result (situation_of self.new) }
         ensures same { SameLoans self.old self.new }
         ensures spared { IsSpared spare.old spare.new }

@@ -15,7 +15,7 @@ use sinks::sink::Sink;
 
 pub type Tried = lease::Tried<Seal>;
 
-impl<S: Sink> Situation<'_, S> {
+impl<S: Sink> Situation<'_, '_, '_, '_, S> {
     // The lease that is out, in exchange for the one in hand, which is used up.
     pub fn exchange(&self, hand: Option<Lease>) -> Option<Lease>
         ensures { handed result ≡ self.now.stream.now.lending.out }
@@ -27,7 +27,7 @@ impl<S: Sink> Situation<'_, S> {
     // back, so that it is not lost. A call that asks for memory of another length is given a part of the spare one.
     pub fn try_call(
         &mut self,
-        spare: &mut Spare<'_>,
+        spare: &mut Spare<'_, '_>,
         hand: Option<Lease>,
         call: PlaybackCall<'_>,
     ) -> Tried
