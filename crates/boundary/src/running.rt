@@ -1,4 +1,6 @@
 // A script run over any pile.
+ghost use Rattle.std.specs.Prelude.{◌≡◌};
+
 use crate::answers::{ANSWER, Standing, put_answer};
 use crate::decoding::read_call;
 use crate::failure::Failure;
@@ -124,7 +126,9 @@ impl Streams {
     }
 
     // The host's memory alone; the rest is let go.
-    fn into_host(self) -> Vec<Frame> {
+    fn into_host(self) -> Vec<Frame>
+        ensures { result ≡ self.host }
+    {
         let Streams { host, .. } = self;
         host
     }
